@@ -1,0 +1,4 @@
+pub mod Bridge
+pub mod Ways
+pub mod Runs
+pub mod Examples
