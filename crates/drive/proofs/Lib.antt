@@ -2,3 +2,8 @@ pub mod Bridge
 pub mod Ways
 pub mod Runs
 pub mod Examples
+pub mod Sheet
+pub mod Heads
+pub mod LogSteps
+pub mod LogCuts
+pub mod TiesSteps

@@ -4,3 +4,9 @@ pub mod Host
 pub mod Promise
 pub mod Admission
 pub mod Examples
+pub mod Shown
+pub mod ChipOps
+pub mod Log
+pub mod LogLaws
+pub mod Ties
+pub mod TiesLaws

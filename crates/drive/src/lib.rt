@@ -8,9 +8,12 @@ ghost use lib.Dec.{T};
 ghost use Rattle.drive.specs.Nand.{Nand, MayRead, MayProgram, MayErase, Reading, Programming, Erasing, lit, allowed};
 ghost use Rattle.drive.specs.Host.{Event, Explained, Up, Cut, Turned, Told};
 ghost use Rattle.drive.specs.Examples.{WhyTold, SixApart};
+ghost use Rattle.drive.specs.Shown.{WrittenShown, TornShown, BlankShown};
 ghost use Rattle.drive.specs.Promise.{can, cmdOf, said, tells, MarkLength, MarksTold, NothingMadeUp, LowRises, OneEach, CoreBuilt};
 
 mod admission;
+mod chip_ops;
+pub mod laws;
 
 pub use admission::Refusal;
 pub use admission::Tags;
@@ -103,6 +106,10 @@ pub trait Host {
         ensures { λ _. ⌜ seen (now (self .exit)) ≡ Cut ∷ seen (now (self .entry)) ⌝ ∗ ⌜ space (now (self .entry)) ≤ space (now (self .exit)) + 1 ⌝ };
 }
 
+// The power has gone.
+#[derive(Drop)]
+pub struct Gone;
+
 // What the first landings build is never taken back.
 pub fn core_built() -> u8
     ensures { λ _. ⌜ CoreBuilt ⌝ }
@@ -139,6 +146,13 @@ pub fn why_told() -> u8
 // Marks are far apart even where what they say differs in one bit.
 pub fn six_apart() -> u8
     ensures { λ _. ⌜ SixApart ⌝ }
+{
+    0
+}
+
+// What is read off the chip of a page that was sealed.
+pub fn pages_shown() -> u8
+    ensures { λ _. ⌜ WrittenShown ⌝ ∗ ⌜ TornShown ⌝ ∗ ⌜ BlankShown ⌝ }
 {
     0
 }
