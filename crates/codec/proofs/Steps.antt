@@ -119,10 +119,9 @@ xor-ones-le a b f g = ones-le 8 (bitXor a b) (xor-lt 8 a b f g)
 pub put-done : (at k n : ℕ) (page v w : List ℕ) → at + length w ≤ length page → v ≡ w → n ≡ length w → take (at + n) (putMid at k page v) ≡ take at page ++ w
 put-done at k n page v w h e f = take-putMid at k page v (at + n) (omega (arith, ap length e)) (omega arith) ∙ ap (λ x. take at page ++ x) e
 
-pub turned-more : (at i : ℕ) (page page0 v : List ℕ) → at + i < length page → i < length v → take (at + i) page ≡ take at page0 ++ turned (take i v)
-    → take (at + (i + 1)) (set page (at + i) (255 - getD v i 0)) ≡ take at page0 ++ turned (take (i + 1) v)
-turned-more at i page page0 v h k e =
+pub turned-more : (at i : ℕ) (page page0 v : List ℕ) (y : ℕ) → at + i < length page → i < length v → y ≡ 255 - getD v i 0 → take (at + i) page ≡ take at page0 ++ turned (take i v)
+    → take (at + (i + 1)) (set page (at + i) y) ≡ take at page0 ++ turned (take (i + 1) v)
+turned-more at i page page0 v y h k is e =
     let n : at + (i + 1) ≡ at + i + 1 = omega arith in
-    let y = 255 - getD v i 0 in
-    ap (λ m. take m (set page (at + i) y)) n ∙ take-more-set page (at + i) y h ∙ ap (λ x. x ++ y ∷ []) e
-    ∙ append-assoc (take at page0) (turned (take i v)) (y ∷ []) ∙ ap (λ x. take at page0 ++ x) (sym (map-more (λ (b : ℕ). 255 - b) v i 0 k))
+    ap (λ m. take m (set page (at + i) y)) n ∙ take-more-set page (at + i) y h ∙ ap₂ (λ (x : List ℕ) (z : ℕ). x ++ z ∷ []) e is
+    ∙ append-assoc (take at page0) (turned (take i v)) ((255 - getD v i 0) ∷ []) ∙ ap (λ x. take at page0 ++ x) (sym (map-more (λ (b : ℕ). 255 - b) v i 0 k))

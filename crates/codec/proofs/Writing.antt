@@ -8,11 +8,11 @@ use native.Mathlib.Omega.{arith}
 use borrow.Rule.Slice.PartMut.{putMid}
 use lib.Dec.{T}
 use lib.ListN.{length, set, getD, take, drop, replicate, length-take, length-drop, length-append}
-use Rattle.std.proofs.shelf.Lists.{drop-drop, drop-take, take-more-set, drop-set-add, take-all, take-take, length-set}
-use Rattle.codec.specs.Bits.{apart, same, turned, mark}
+use Rattle.std.proofs.shelf.Lists.{drop-drop, drop-take, take-more-set, drop-set-add, take-all, take-at, take-take, length-take-le, length-set}
+use Rattle.codec.specs.Bits.{allBytes, apart, same, turned, mark}
 use Rattle.codec.specs.Mending.{column, places}
 use Rattle.codec.specs.Pages.{checks, guarded, rest, paged, markIn}
-use Rattle.codec.proofs.Pages.{same-is, same-refl}
+use Rattle.codec.proofs.Pages.{same-is, same-refl, all-take}
 use Rattle.codec.proofs.Steps.{put-done}
 
 pub put-mark-done : (a : ℕ) (v p q r s t u w : List ℕ) → length v ≡ 32
@@ -116,3 +116,10 @@ mark-else u w ne is = is ∙ go (same (take 32 u) (take 32 (drop 32 u))) (λ h. 
     go : (t : Bool) → (T t → ⊥) → take 32 (drop 64 u) ≡ cond t (take 32 u) (take 32 (drop 64 u))
     go true h = absurd (h tt)
     go false h = refl
+
+-- the data of a page of bytes are bytes
+pub data-bytes : (v p w : List ℕ) → 4096 ≤ length p → w ≡ paged v (take 4096 p) → T (allBytes w) → T (allBytes (take 4096 p))
+unfolding paged
+data-bytes v p w l e h =
+    let d = take 4096 p in
+    subst (λ x. T (allBytes x)) (ap (take 4096) e ∙ take-at d (mark v ++ rest d) 4096 (length-take-le 4096 p l)) (all-take 4096 w h)

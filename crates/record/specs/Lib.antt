@@ -1,0 +1,4 @@
+pub mod Decoding
+pub mod Contents
+pub mod Marks
+pub mod Headers
