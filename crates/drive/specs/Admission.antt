@@ -7,7 +7,7 @@ use lib.Dec.{eqb}
 use Rattle.std.specs.declared.result.Result.{Result}
 use Rattle.std.specs.declared.result.Result.the-variants.{Ok, Err}
 use Rattle.drive.specs.Bits.{some'}
-use Rattle.drive.specs.Host.{Cmd, Way, Seen, why}
+use Rattle.drive.specs.Host.{Cmd, Way, Seen, wrong, why}
 use Rattle.drive.specs.Promise.{can}
 use Rattle.drive.specs.declared.admission.Tags.{Tags}
 use Rattle.drive.specs.declared.admission.Refusal.{Refusal}
@@ -39,3 +39,7 @@ Names g h = (t : ℕ) → t < 8 → has g t ≡ some' (λ (w : Way). eqb t (w .t
 -- why a command is turned away, then 5 where it isn't built, and 0 where it may begin
 abbrev pub refused : ℕ → Seen → ℕ → Cmd → ℕ
 refused size h t c = cond (eqb (why size h t c) 0) (cond (can c) 0 5) (why size h t c)
+
+-- the same of a command whose tag is free
+abbrev pub unfit : ℕ → Cmd → ℕ
+unfit size c = cond (eqb (wrong size c) 0) (cond (can c) 0 5) (wrong size c)

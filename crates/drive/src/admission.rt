@@ -2,10 +2,10 @@
 ghost use mathlib.Core.Path.{_≡_};
 ghost use mathlib.Core.Bool.{false};
 ghost use mathlib.Core.List.{List};
-ghost use Prim.Native.Nat.{ℕ};
-ghost use Rattle.drive.specs.Host.{Seen, outside, wrong};
-ghost use Rattle.drive.specs.Promise.{can, cmdOf};
-ghost use Rattle.drive.specs.Admission.{number, answered, has, Names, refused};
+ghost use Prim.Native.Nat.{ℕ, _<_};
+ghost use Rattle.drive.specs.Host.{Seen, outside};
+ghost use Rattle.drive.specs.Promise.{cmdOf};
+ghost use Rattle.drive.specs.Admission.{number, answered, has, Names, unfit, refused};
 use crate::Ask;
 
 // Why a command is turned away.
@@ -96,7 +96,7 @@ fn within(sectors: u64, from: u64, many: u32) -> Result<(), Refusal>
 
 // Whether a command names sectors that are there, on a drive of so many.
 fn in_range(sectors: u64, a: Ask) -> Result<(), Refusal>
-    ensures { λ r. ⌜ ((bs : List ℕ) → answered r ≡ wrong sectors (cmdOf a bs)) ⌝ }
+    ensures { λ r. ⌜ ((bs : List ℕ) → answered r ≡ unfit sectors (cmdOf a bs)) ⌝ }
 {
     match a {
         Ask::Read { from, many } => within(sectors, from, many),
@@ -106,29 +106,12 @@ fn in_range(sectors: u64, a: Ask) -> Result<(), Refusal>
     }
 }
 
-// Whether a command is built.
-fn built(a: Ask) -> bool
-    ensures { λ r. ⌜ ((bs : List ℕ) → r ≡ can (cmdOf a bs)) ⌝ }
-{
-    match a {
-        Ask::Read { from: _, many: _ } => true,
-        Ask::Write { from: _, many } => many == 1,
-        Ask::Trim { from: _, many: _ } => false,
-        Ask::Flush => true,
-    }
-}
-
 // Whether a command may begin, on a drive of so many sectors; the first reason that applies.
 pub fn admit(sectors: u64, under_way: &Tags, tag: u8, a: Ask) -> Result<(), Refusal>
-    ensures { λ r. ⌜ ((h : Seen) (bs : List ℕ) → Names (now («under_way» .entry)) h → answered r ≡ refused sectors h tag (cmdOf a bs)) ⌝ }
+    ensures { λ r. ⌜ ((h : Seen) (bs : List ℕ) → Names (now («under_way» .entry)) h → answered r ≡ refused sectors h tag (cmdOf a bs)) ⌝ ∗ ⌜ (answered r ≡ 0 → tag < 8) ⌝ }
 {
     if tag > 7 || under_way.has(tag) {
         return Err(Refusal::Tag);
     }
-    in_range(sectors, a)?;
-    if built(a) {
-        Ok(())
-    } else {
-        Err(Refusal::NotBuilt)
-    }
+    in_range(sectors, a)
 }

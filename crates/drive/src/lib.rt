@@ -2,18 +2,45 @@
 ghost use mathlib.Core.Path.{_≡_};
 ghost use mathlib.Core.List.{List, _∷_};
 ghost use mathlib.Core.Bool.{false};
-ghost use Prim.Native.Nat.{ℕ, _+_, _<_, _≤_};
+ghost use Rattle.std.specs.Results.{isOk};
+ghost use Prim.Native.Nat.{ℕ, _+_, _*_, _<_, _≤_};
 ghost use lib.ListN.{length};
 ghost use lib.Dec.{T};
 ghost use Rattle.drive.specs.Nand.{Nand, MayRead, MayProgram, MayErase, Reading, Programming, Erasing, lit, allowed};
 ghost use Rattle.drive.specs.Host.{Event, Explained, Up, Cut, Turned, Told};
+ghost use Rattle.drive.specs.Host.{Seen};
+ghost use Rattle.drive.specs.Queue.{Under, Adds, verdict};
+ghost use Rattle.drive.specs.Journals.{Sized};
+ghost use Rattle.drive.specs.Service.{Came, Standing, Kept, Turns, sectorsOf};
 ghost use Rattle.drive.specs.Examples.{WhyTold, SixApart};
 ghost use Rattle.drive.specs.Shown.{WrittenShown, TornShown, BlankShown};
-ghost use Rattle.drive.specs.Promise.{can, cmdOf, said, tells, MarkLength, MarksTold, NothingMadeUp, LowRises, OneEach, CoreBuilt};
+ghost use Rattle.drive.specs.Promise.{can, roomOf, cmdOf, said, tells, MarkLength, MarksTold, NothingMadeUp, LowRises, OneEach, CoreBuilt};
 
 mod admission;
+mod append;
+mod belief;
+mod chain;
+mod collect;
 mod chip_ops;
+mod journal;
+mod queue;
+mod reading;
+mod recovery;
+mod room;
+mod service;
+mod steps;
+mod survey;
+mod walk;
 pub mod laws;
+pub mod laws_recovery;
+pub mod laws_space;
+pub mod laws_wear;
+
+use journal::Journal;
+use queue::Queue;
+use queue::accept;
+use queue::keep_bytes;
+use service::Served;
 
 pub use admission::Refusal;
 pub use admission::Tags;
@@ -109,6 +136,79 @@ pub trait Host {
 // The power has gone.
 #[derive(Drop)]
 pub struct Gone;
+
+// What the drive keeps in a struct, beside the room that it is lent: what it knows of its log, and the commands under way.
+#[derive(Drop)]
+pub struct Drive {
+    journal: Journal,
+    queue: Queue,
+}
+
+pub struct Ended { pub tag: u8, pub ask: Ask }
+
+pub fn open<C: Chip>(c: &mut C, room: &mut [u8]) -> Result<Drive, Gone>
+    requires soon { ⌜ 16 * nand (now c) .blocks + 65536 ≤ nand (now c) .left ⌝ }
+    requires sized { ⌜ Sized (nand (now c)) ⌝ }
+    requires lent { ⌜ roomOf (nand (now c) .blocks) (nand (now c) .blocks * nand (now c) .pages) ≤ length (now room) ⌝ }
+    ensures only { λ r. ⌜ (isOk r ≡ false → nand (now (c .exit)) .on ≡ false) ⌝ }
+    ensures came { λ r. ⌜ Came r (nand (now (c .exit))) (now (room .exit)) ⌝ }
+{
+    let mut journal = Journal::unknown(c.blocks(), c.pages());
+    journal.come_up(c, room)?;
+    journal.allow(room, 0);
+    Ok(Drive { journal, queue: Queue::new() })
+}
+
+impl Drive {
+    // 0, or why it is turned away. The chip isn't asked.
+    pub fn ask(&mut self, room: &mut [u8], tag: u8, a: Ask, bytes: &[u8]) -> u8
+        requires lent { ⌜ 262144 ≤ length (now room) ⌝ ∗ ⌜ 32768 ≤ length (now bytes) ⌝ }
+        ensures told { λ r. ⌜ ((h : Seen) (bs : List ℕ) → Under (now (self .entry) .queue) h → r ≡ verdict (now (self .entry) .journal .stuck) (sectorsOf (now (self .entry))) h tag (cmdOf a bs)) ⌝ }
+        ensures refused { λ r. ⌜ ((r ≡ 0 → ⊥) → (now (self .exit) ≡ now (self .entry)) × (now (room .exit) ≡ now (room .entry))) ⌝ }
+        ensures begins { λ r. ⌜ (r ≡ 0 → (tag < 8) × Adds (now (self .entry) .queue) tag a (now (self .exit) .queue)) ⌝ }
+        ensures keeps { λ _. ⌜ now (self .exit) .journal ≡ now (self .entry) .journal ⌝ }
+    {
+        let sectors = 5 * u64::from(self.journal.shape.total) / 8;
+        let why = accept(&mut self.queue, self.journal.stuck, sectors, tag, a);
+        if why == 0 {
+            keep_bytes(room, tag, a, bytes);
+        }
+        why
+    }
+
+    // A turn. A command that has ended is handed back; what a read read stands in out.
+    pub fn turn<C: Chip>(&mut self, c: &mut C, room: &mut [u8], out: &mut [u8]) -> Result<Option<Ended>, Gone>
+        requires soon { ⌜ 64 ≤ nand (now c) .left ⌝ }
+        requires stands { ⌜ Standing (nand (now c)) (now self) (now room) ⌝ }
+        requires lent { ⌜ length (now out) ≡ 32768 ⌝ }
+        ensures only { λ r. ⌜ (isOk r ≡ false → nand (now (c .exit)) .on ≡ false) ⌝ }
+        ensures kept { λ r. ⌜ Kept r (nand (now (c .exit))) (now (self .exit)) (now (room .exit)) ⌝ }
+        ensures turns { λ r. ⌜ Turns (now (self .entry) .queue) r (now (self .exit) .queue) ⌝ }
+    {
+        self.journal.allow(room, 64);
+        for _ in 0..64u32 {
+            match self.serve_front(c, room, out)? {
+                Served::More => {}
+                Served::Idle => {
+                    break;
+                }
+                Served::Ended(e) => {
+                    self.journal.allow(room, 0);
+                    return Ok(Some(e));
+                }
+            }
+        }
+        self.journal.allow(room, 0);
+        Ok(None)
+    }
+}
+
+// The drive's own value is small; what is large is lent.
+pub fn drive_is_small() -> bool
+    ensures { λ r. ⌜ T r ⌝ }
+{
+    std::mem::size_of::<Drive>() <= 4096
+}
 
 // What the first landings build is never taken back.
 pub fn core_built() -> u8

@@ -4,7 +4,7 @@ use Rattle.drive.proofs.Heads.{opened}
 use Rattle.drive.proofs.chip_ops.erase_block.Needs as need
 
 pub returns-in-Fine : need.returns-in-Fine
-returns-in-Fine g c = opened (c .pre) (c .in-Fine .ensures tt)
+returns-in-Fine g c = opened (c .pre .some) (c .pre .may) (c .in-Fine .ensures tt)
 
 pub returns-in-Failed : need.returns-in-Failed
 returns-in-Failed g c = erase-failed (c .in-Failed .ensures tt) .0

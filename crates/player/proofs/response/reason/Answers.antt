@@ -9,9 +9,9 @@ use Rattle.player.proofs.response.reason.Needs as need
 
 pub returns-in-Ok : need.returns-in-Ok
 unfolding some'
-returns-in-Ok c = unbuilt-ok (why 320 fresh (c .args .tag) (cmdOf (c .args .a) [])) (can (cmdOf (c .args .a) [])) (c .in-Ok .ensures tt fresh [] (λ t l. c .none .ensures t))
+returns-in-Ok c = unbuilt-ok (why 320 fresh (c .args .tag) (cmdOf (c .args .a) [])) (can (cmdOf (c .args .a) [])) (c .in-Ok .ensures tt .0 fresh [] (λ t l. c .none .ensures t))
 
 pub returns-in-Err : need.returns-in-Err
 unfolding some'
 returns-in-Err c =
-    c .code .ensures ∙ unbuilt-err (number (c .in-Err .refusal)) (why 320 fresh (c .args .tag) (cmdOf (c .args .a) [])) (can (cmdOf (c .args .a) [])) (number-pos (c .in-Err .refusal)) (c .in-Err .ensures tt fresh [] (λ t l. c .none .ensures t))
+    c .code .ensures ∙ unbuilt-err (number (c .in-Err .refusal)) (why 320 fresh (c .args .tag) (cmdOf (c .args .a) [])) (can (cmdOf (c .args .a) [])) (number-pos (c .in-Err .refusal)) (c .in-Err .ensures tt .0 fresh [] (λ t l. c .none .ensures t))
