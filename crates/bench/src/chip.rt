@@ -9,6 +9,7 @@ ghost use Rattle.bench.specs.Store.{held, least, most};
 use super::events::Counts;
 use super::pieces::fit;
 use super::store::Store;
+use super::tricks::Mode;
 use super::tricks::Tricks;
 use drive::Answer;
 use drive::Bench;
@@ -33,6 +34,16 @@ impl MemoryChip<'_> {
             self.store.on = false;
         }
         self.tricks.cut_in = ask;
+    }
+
+    // From here on the chip chooses by this mode; what was said of a cut stays.
+    pub fn choose(&mut self, mode: Mode)
+        ensures same { λ _. ⌜ held (now (self .exit) .store) ≡ held (now (self .entry) .store) ⌝ }
+        ensures chosen { λ _. ⌜ now (self .exit) .tricks .mode ≡ mode ⌝ ∗ ⌜ now (self .exit) .tricks .«cut_in» ≡ now (self .entry) .tricks .«cut_in» ⌝ }
+    {
+        let cut_in = self.tricks.cut_in;
+        self.tricks = Tricks::new(mode);
+        self.tricks.cut_in = cut_in;
     }
 
     // How often each thing happened.

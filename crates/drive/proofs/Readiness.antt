@@ -210,3 +210,27 @@ ready-new n j room z lent soon u =
 
 pub unknown-of : (b p b' p' : ℕ) (j : Journal) → b ≡ b' → p ≡ p' → Unknown b p j → Unknown b' p' j
 unknown-of b p b' p' j e f u = subst (λ (x : ℕ × ℕ). Unknown (x .0) (x .1) j) (λ i. (e i, f i)) u
+
+-- what is ready and asks nothing is ready on any chip that holds the same
+pub ready-same : (n m : Nand) (j : Journal) (room : List ℕ) → m .blocks ≡ n .blocks → m .pages ≡ n .pages → m .block ≡ n .block → j .asks ≡ 0 → Ready n j room → Ready m j room
+unfolding Ready
+ready-same n m j room blocks pages block asks r =
+    record {
+      sound = r .sound;
+      some = omega (arith, r .some);
+      blocks = r .blocks ∙ sym blocks;
+      pages = r .pages ∙ sym pages;
+      soon = omega arith;
+      holds = holds-same (j .head) (r .holds);
+    }
+  where
+    holds-same : (o : Option Head) → Cases o (Unit {0}) (λ h. Holds n h) → Cases o (Unit {0}) (λ h. Holds m h)
+    holds-same None h = tt
+    holds-same (Some x) h =
+        record {
+          inside = omega (arith, h .inside);
+          clean = ap (λ (f : ℕ → Block). f (x .block) .clean) block ∙ h .clean;
+          sound = ap (λ (f : ℕ → Block). f (x .block) .bad) block ∙ h .sound;
+          here = ap (λ (f : ℕ → Block). f (x .block) .next) block ∙ h .here;
+          within = omega (arith, h .within);
+        }

@@ -9,7 +9,7 @@ ghost use lib.Dec.{T};
 ghost use Rattle.drive.specs.Nand.{Nand, MayRead, MayProgram, MayErase, Reading, Programming, Erasing, lit, allowed};
 ghost use Rattle.drive.specs.Host.{Event, Explained, Up, Cut, Turned, Told};
 ghost use Rattle.drive.specs.Host.{Seen};
-ghost use Rattle.drive.specs.Queue.{Under, Adds, verdict};
+ghost use Rattle.drive.specs.Queue.{Under, Adds, verdict, busy, slotAt};
 ghost use Rattle.drive.specs.Journals.{Sized};
 ghost use Rattle.drive.specs.Service.{Came, Standing, Kept, Turns, sectorsOf};
 ghost use Rattle.drive.specs.Examples.{WhyTold, SixApart};
@@ -174,6 +174,13 @@ impl Drive {
             keep_bytes(room, tag, a, bytes);
         }
         why
+    }
+
+    // Whether no command is under way.
+    pub fn is_idle(&self) -> bool
+        ensures { λ r. ⌜ (T r → (t : ℕ) → t < 8 → busy (slotAt (now (self .entry) .queue) t) ≡ false) ⌝ }
+    {
+        self.queue.front().is_none()
     }
 
     // A turn. A command that has ended is handed back; what a read read stands in out.

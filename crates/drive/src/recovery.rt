@@ -173,7 +173,7 @@ impl Journal {
         Ok(false)
     }
 
-    // What a page of the head says, also where its commit page, which was seen once, isn't seen now.
+    // What a page of the head says.
     fn show_content<C: Chip>(&mut self, c: &mut C, room: &mut [u8], head: Candidate, page: u32) -> Result<Option<Content>, Gone>
         requires ready { ⌜ Ready (nand (now c)) (now self) (now room) ⌝ }
         requires soon { ⌜ 1 ≤ now self .asks ⌝ }
@@ -185,7 +185,7 @@ impl Journal {
         if let Some(record) = self.show_record(c, room, head.block, page)? {
             return Ok(Some(record.content));
         }
-        if page == head.commit { Ok(Some(Content::Seal { origin: SealOrigin::Recovery })) } else { Ok(None) }
+        Ok(None)
     }
 
     // Copies a page of the head.
@@ -207,26 +207,21 @@ impl Journal {
         Ok(true)
     }
 
-    // Copies the head's believed records, so many of them, and seals them if the last isn't a seal.
-    fn copy_head<C: Chip>(&mut self, c: &mut C, room: &mut [u8], head: Candidate, count: u32, sealed: bool) -> Result<bool, Gone>
+    // Copies so many of the head's records, and seals them. A seal that was believed isn't looked at again: it may not be seen twice.
+    fn copy_head<C: Chip>(&mut self, c: &mut C, room: &mut [u8], head: Candidate, count: u32, origin: SealOrigin) -> Result<bool, Gone>
         requires ready { ⌜ Ready (nand (now c)) (now self) (now room) ⌝ }
         requires few { ⌜ count < 256 ⌝ }
         ensures { λ r. ⌜ Rose r (now (self .entry)) (nand (now (c .exit))) (now (self .exit)) (now (room .exit)) ⌝ }
     {
-        let added = if sealed { 0 } else { 1 };
         for done in 0..count {
             if self.asks < 1 {
                 return Ok(false);
             }
-            if !self.copy_page(c, room, head, done + 1, count - done + added)? {
+            if !self.copy_page(c, room, head, done + 1, count - done + 1)? {
                 return Ok(false);
             }
         }
-        if sealed {
-            return Ok(true);
-        }
-        let seal = Content::Seal { origin: SealOrigin::Recovery };
-        let done = self.append_rest(c, room, seal, 1)?;
+        let done = self.append_rest(c, room, Content::Seal { origin }, 1)?;
         Ok(done)
     }
 }
@@ -311,10 +306,12 @@ impl Journal {
         ensures { λ r. ⌜ Rose r (now (self .entry)) (nand (now (c .exit))) (now (self .exit)) (now (room .exit)) ⌝ }
     {
         self.clear_unreadable(c, room)?;
-        if belief.count > 255 {
+        let copied = if belief.sealed { belief.count.saturating_sub(1) } else { belief.count };
+        if copied > 255 {
             return Ok(false);
         }
-        let done = self.copy_head(c, room, head, belief.count, belief.sealed)?;
+        let origin = if belief.sealed && !belief.owed { SealOrigin::Flush } else { SealOrigin::Recovery };
+        let done = self.copy_head(c, room, head, copied, origin)?;
         Ok(done)
     }
 

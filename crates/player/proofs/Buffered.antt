@@ -12,10 +12,10 @@ use Rattle.std.proofs.shelf.Decimals.{length-decimal-le}
 use Rattle.script.specs.Commands.{text, Fits}
 use Rattle.script.specs.declared.commands.Command.{Command}
 use Rattle.script.specs.declared.commands.Command.the-variants.{Write, Read, Trim, Flush, Turn, Cut, Seed}
-use Rattle.player.specs.Buffers.{Holds}
-use Rattle.player.specs.Responses.{Responds, SameAnswer}
+use Rattle.script.specs.Readings.{Whole}
+use Rattle.std.specs.declared.option.Option.the-variants.{None, Some}
+use Rattle.player.specs.Buffers.{Holds, SameReading}
 use Rattle.player.specs.declared.buffer.LineBuffer.{LineBuffer}
-use Rattle.player.specs.declared.response.Response.the-variants.{NoCommand}
 
 -- no command has more than 40 bytes
 pub text-short : (c : Command) → Fits c → length (text c) ≤ 40
@@ -90,14 +90,13 @@ lost-long b l o k =
     (cases-lt 40 (length l))
 
 -- neither a line that is longer than any command nor an empty one is a command
-pub same-long : (l : List ℕ) → 40 < length l → SameAnswer [] l
-same-long l p r h =
-    let none : r ≡ NoCommand = h .otherwise (λ c f q. absurd (omega (arith, text-some c f, ap length q))) in
-    record { command = λ c f q. absurd (omega (arith, text-short c f, ap length q)); otherwise = λ no. none }
+pub same-long : (l : List ℕ) → 40 < length l → SameReading [] l
+same-long l p None h = λ c f q. absurd (omega (arith, text-short c f, ap length q))
+same-long l p (Some c) h = absurd (omega (arith, text-some c (h .0), ap length (h .1)))
 
 -- what fits is the line
-pub same-short : (b : LineBuffer) (l : List ℕ) → b .overflow ≡ false → Holds b l → SameAnswer (take (b .len - 0) (b .bytes)) l
-same-short b l o k r h = subst (λ x. Responds x r) held h
+pub same-short : (b : LineBuffer) (l : List ℕ) → b .overflow ≡ false → Holds b l → SameReading (take (b .len - 0) (b .bytes)) l
+same-short b l o k r h = subst (λ x. Whole text Fits x r) held h
   where
     held : take (b .len - 0) (b .bytes) ≡ l
     held =

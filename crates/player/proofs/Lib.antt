@@ -1,2 +1,2 @@
-pub mod Reasons
 pub mod Buffered
+pub mod Ready

@@ -1,2 +1,2 @@
-pub mod Responses
 pub mod Buffers
+pub mod Sessions

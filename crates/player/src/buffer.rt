@@ -4,10 +4,11 @@ ghost use mathlib.Core.List.{List, [], _∷_, _++_};
 ghost use Prim.Native.Nat.{ℕ, _<_, _≤_};
 ghost use lib.Dec.{eqb};
 ghost use lib.ListN.{length};
-ghost use Rattle.player.specs.Buffers.{Holds};
-ghost use Rattle.player.specs.Responses.{Responds, SameAnswer};
-use crate::response::Response;
-use crate::response::respond;
+ghost use Rattle.player.specs.Buffers.{Holds, SameReading};
+ghost use Rattle.script.specs.Commands.{text, Fits};
+ghost use Rattle.script.specs.Readings.{Whole};
+use script::Command;
+use script::parse;
 
 // No command has more bytes.
 const LONGEST: usize = 40;
@@ -65,7 +66,7 @@ impl LineBuffer {
 
     // The line; none of its bytes if it is longer than any command, since an empty line is no command either.
     fn held(&self) -> &[u8]
-        ensures { λ r. ⌜ ((l : List ℕ) → Holds (now (self .entry)) l → SameAnswer (now r) l) ⌝ }
+        ensures { λ r. ⌜ ((l : List ℕ) → Holds (now (self .entry)) l → SameReading (now r) l) ⌝ }
     {
         if self.overflow || self.len > LONGEST {
             return &self.bytes[0..0];
@@ -73,10 +74,10 @@ impl LineBuffer {
         &self.bytes[0..self.len]
     }
 
-    // The answer to the line.
-    pub fn respond(&self) -> Response
-        ensures { λ r. ⌜ ((l : List ℕ) → Holds (now (self .entry)) l → Responds l r) ⌝ }
+    // The command of the line, if it gives one.
+    pub fn command(&self) -> Option<Command>
+        ensures { λ r. ⌜ ((l : List ℕ) → Holds (now (self .entry)) l → Whole text Fits l r) ⌝ }
     {
-        respond(self.held())
+        parse(self.held())
     }
 }

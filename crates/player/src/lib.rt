@@ -1,7 +1,10 @@
-// What `rehearse` answers to the lines of a script.
+// Playing a script on a drive over a chip in memory.
 mod buffer;
-mod response;
+mod output;
+mod play;
+mod session;
 
 pub use buffer::LineBuffer;
-pub use response::Response;
-pub use response::respond;
+pub use output::Output;
+pub use play::play_line;
+pub use session::Session;
