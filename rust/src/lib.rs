@@ -9,6 +9,7 @@ mod raw {
     extern "C" {
         pub fn codec_seal(page: *mut u8, page_len: usize, mark: *const u8, mark_len: usize) -> bool;
         pub fn codec_unseal(page: *mut u8, page_len: usize) -> bool;
+        pub fn chip_read(pages: *mut u8, pages_len: usize, page: *mut u8, page_len: usize, seed: u64, times: u64) -> u64;
     }
 }
 
@@ -20,6 +21,11 @@ pub fn seal(page: &mut [u8; PAGE], mark: &[u8; MARK]) {
 /// Mends the data of a page in place.
 pub fn unseal(page: &mut [u8; PAGE]) {
     assert!(unsafe { raw::codec_unseal(page.as_mut_ptr(), page.len()) });
+}
+
+/// Makes a chip of 32 blocks of 16 pages in the lent memory, writes its first page and reads it so often; how often that went well.
+pub fn read_chip(memory: &mut [u8], page: &mut [u8; PAGE], seed: u64, times: u64) -> u64 {
+    unsafe { raw::chip_read(memory.as_mut_ptr(), memory.len(), page.as_mut_ptr(), page.len(), seed, times) }
 }
 
 /// A small generator (splitmix64), so that no crate from outside is needed and every run is the same.

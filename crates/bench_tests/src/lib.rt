@@ -22,7 +22,7 @@ fn write<C: Bench>(chip: &mut C, block: u32, bytes: &[u8], room: &mut [u8])
 }
 
 // A block that isn't bad is erased, and its first page written; the power comes back if it goes.
-fn rewrite<C: Bench>(chip: &mut C, block: u32, bytes: &[u8], room: &mut [u8])
+pub fn rewrite<C: Bench>(chip: &mut C, block: u32, bytes: &[u8], room: &mut [u8])
     requires within { ⌜ block < C·Chip .nand (now chip) .blocks ⌝ ∗ ⌜ 0 < C·Chip .nand (now chip) .pages ⌝ }
     requires whole { ⌜ length (now bytes) ≡ 4352 ⌝ }
     ensures { λ _. ⌜ Kept (C·Chip .nand (now (chip .entry))) (C·Chip .nand (now (chip .exit))) ⌝ }
@@ -39,7 +39,7 @@ fn rewrite<C: Bench>(chip: &mut C, block: u32, bytes: &[u8], room: &mut [u8])
 }
 
 // The first page of a block is read; the power comes back if it goes.
-fn look<C: Bench>(chip: &mut C, block: u32, into: &mut [u8], room: &mut [u8])
+pub fn look<C: Bench>(chip: &mut C, block: u32, into: &mut [u8], room: &mut [u8])
     requires within { ⌜ block < C·Chip .nand (now chip) .blocks ⌝ ∗ ⌜ 0 < C·Chip .nand (now chip) .pages ⌝ }
     requires lent { ⌜ length (now into) ≡ 4352 ⌝ }
     ensures { λ _. ⌜ Kept (C·Chip .nand (now (chip .entry))) (C·Chip .nand (now (chip .exit))) ⌝ }
