@@ -9,7 +9,7 @@ use lib.Dec.{eqb, leb, ltb}
 use lib.ListN.{length}
 use Rattle.std.proofs.shelf.Tests.{cases-bool, cases-lt, cond-true, cond-false, le-leb, lt-leb, lt-ltb, le-ltb, eq-eqb, ne-eqb, eqb-true, and-parts, and-from, and-left, both-ways}
 use Rattle.drive.specs.Host.{noughts}
-use Rattle.drive.specs.Log.{Record, Log, dataKind, sealKind, isData, isSeal, holds, live, held, unsealed, recordAt, placeIn, isNewest, copied, bare}
+use Rattle.drive.specs.Log.{contents, Record, Log, dataKind, sealKind, isData, isSeal, holds, live, held, unsealed, recordAt, placeIn, isNewest, copied, bare}
 use Rattle.drive.specs.LogLaws.{AppendChangesOne, SealChangesNone, OthersChangeNone, CopyChangesNone, MoveChangesNone, CopyAndMoveChangesNone, SealsSayNothing, PlaceSays, TailsSayNothing}
 
 -- ---- the records that count
@@ -237,3 +237,7 @@ bare-held t (r ∷ rs) s =
 
 pub tails-nothing : TailsSayNothing
 tails-nothing t rs qs e s = sym (bare-held t rs s) ∙ ap (λ (x : List Record). held (live t x) s) e ∙ bare-held t qs s
+
+-- a sector that has no record from the tail on holds noughts
+pub place-none : (l : Log) (s : ℕ) → placeIn (l .records) s ≤ l .tail → contents l s ≡ noughts
+place-none l s h = place-behind (l .tail) (l .records) s h

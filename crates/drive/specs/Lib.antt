@@ -18,3 +18,4 @@ pub mod Recovery
 pub mod Queue
 pub mod Survey
 pub mod Service
+pub mod Places

@@ -3,6 +3,11 @@ ghost use mathlib.Core.Path.{_≡_};
 ghost use Prim.Native.Nat.{ℕ, _<_, _≤_};
 ghost use lib.ListN.{length};
 ghost use Rattle.drive.specs.Nand.{Nand};
+ghost use Rattle.words.specs.Words.{valueAt};
+ghost use Rattle.drive.specs.Room.{placeAt};
+ghost use Rattle.drive.specs.Host.{noughts};
+ghost use Rattle.drive.specs.Log.{Log, contents};
+ghost use Rattle.drive.specs.Places.{Tabled};
 ghost use Rattle.drive.specs.Journals.{Ready, Went, Sound, Noted, Stands, Stays};
 use crate::Chip;
 use crate::Gone;
@@ -53,6 +58,7 @@ impl Journal {
     // Where a sector is, 0 for nowhere.
     fn place(&self, room: &[u8], sector: u32) -> u32
         requires { ⌜ Sound (now self) (now room) ⌝ }
+        ensures { λ r. ⌜ (sector < now (self .entry) .shape .total → r ≡ valueAt 4 (now (room .entry)) (placeAt (now (self .entry) .shape .blocks) sector)) ⌝ }
     {
         if sector < self.shape.total { place_of(room, self.shape, sector) } else { 0 }
     }
@@ -96,9 +102,10 @@ impl Journal {
         self.note_place(room, sector);
     }
 
-    // Where a sector is, 0 for nowhere.
+    // Where a sector is, 0 for nowhere: it then holds noughts, by every log whose places the room has.
     pub fn find(&self, room: &[u8], sector: u32) -> u32
         requires { ⌜ Stands (now self) (now room) ⌝ }
+        ensures { λ r. ⌜ ((l : Log) → Tabled (now (self .entry) .shape) (now (room .entry)) l → sector < now (self .entry) .shape .total → r ≡ 0 → contents l sector ≡ noughts) ⌝ }
     {
         self.place(room, sector)
     }
