@@ -1,4 +1,6 @@
 // A chip in lent memory that keeps to the data sheet, with all that the sheet allows a chip to do.
+#![tactic(auto)]
+
 mod chip;
 mod events;
 mod generator;

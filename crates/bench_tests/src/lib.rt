@@ -1,4 +1,6 @@
 // Chips in memory are asked ten thousand times, and each of their tricks happens.
+#![tactic(auto)]
+
 ghost use Rattle.std.specs.Prelude.{◌≡◌, ℕ, ◌<◌, length};
 ghost use Rattle.drive.specs.Nand.{MayProgram};
 ghost use Rattle.bench_tests.specs.Asked.{Kept};

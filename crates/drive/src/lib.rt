@@ -1,4 +1,6 @@
 // The chip below, whoever asks above, and the life of a drive between them.
+#![tactic(auto)]
+
 ghost use Rattle.std.specs.Prelude.{◌≡◌, ℕ, ◌+◌, ◌*◌, ◌<◌, ◌≤◌, false, T, List, ◌∷◌, length, is_ok, ◌≢◌};
 ghost use Rattle.drive.specs.Nand.{Nand, MayRead, MayProgram, MayErase, Reading, Programming, Erasing, lit, allowed};
 ghost use Rattle.drive.specs.Host.{Event, Explained, Up, Cut, Turned, Told};

@@ -1,4 +1,6 @@
 // A line that comes byte by byte.
+#![tactic(auto)]
+
 ghost use Rattle.std.specs.Prelude.{◌≡◌, ℕ, ◌<◌, ◌≤◌, List, [], ◌∷◌, ◌++◌, length, ◌==◌};
 ghost use Rattle.line_buffer.specs.Buffers.{Holds, SameReading};
 ghost use Rattle.script.specs.Commands.{text, Fits};

@@ -1,4 +1,6 @@
 // What is printed, in lent bytes.
+#![tactic(auto)]
+
 ghost use Rattle.std.specs.Prelude.{◌≡◌, ℕ, ◌+◌, ◌≤◌, List, [], ◌∷◌, ◌++◌, length, decimal};
 ghost use Rattle.output.specs.Outputs.{Shows, Pushes, digit, hex_of, pair_line};
 

@@ -1,4 +1,6 @@
 // Playing a script on a drive over a chip in memory.
+#![tactic(auto)]
+
 mod play;
 mod session;
 

@@ -1,4 +1,6 @@
 // What the pages of a log say of themselves: the mark of each page, and the data of a header page.
+#![tactic(auto)]
+
 pub mod contents;
 pub mod entries;
 pub mod headers;

@@ -1,4 +1,6 @@
 // Which commands are turned away before anything is done for them, and why.
+#![tactic(auto)]
+
 ghost use Rattle.std.specs.Prelude.{◌≡◌, ℕ, ◌<◌, false};
 ghost use Rattle.refusals.specs.Refusals.{number, answered, has, outside, refusal};
 

@@ -1,4 +1,6 @@
 // Scripts that the gate plays, each on a new chip. What is printed was derived by hand from the rules in README.md and docs/LAYOUT.md.
+#![tactic(auto)]
+
 ghost use Rattle.std.specs.Prelude.{◌<◌};
 
 mod long;

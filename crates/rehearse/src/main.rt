@@ -1,4 +1,6 @@
 // Plays a script from standard input on a drive over a chip of 32 blocks of 16 pages in memory.
+#![tactic(auto)]
+
 ghost use Rattle.std.specs.Prelude.{◌≡◌, ◌<◌, length};
 ghost use Rattle.bench.specs.Store.{held};
 ghost use Rattle.player.specs.Sessions.{Up};

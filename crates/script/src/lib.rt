@@ -1,4 +1,6 @@
 // The language of scripts: one command a line.
+#![tactic(auto)]
+
 mod commands;
 mod lines;
 mod spans;

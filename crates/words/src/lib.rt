@@ -1,4 +1,6 @@
 // Unsigned integers in lent bytes, the lowest byte first.
+#![tactic(auto)]
+
 ghost use Rattle.std.specs.Prelude.{◌≡◌, ℕ, ◌+◌, ◌*◌, ◌≤◌, length, ◌≢◌};
 ghost use Rattle.words.specs.Words.{value_at, word_at, Written};
 

@@ -5,4 +5,4 @@ use Rattle.words.proofs.read_u32.Goals as goal
 
 pub returns : goal.returns
 unfolding value_at
-returns c = c.from-le-bytes.ensures ∙ value_4 _ c.copy-from-slice.ensures.len ∙ ap value (part c.args.at 4 c.args.s.now c.copy-from-slice.new.self (search rules))
+returns c = c.from_le_bytes.ensures ∙ value_4 _ c.copy_from_slice.ensures.len ∙ ap value (part c.args.at 4 c.args.s.now c.copy_from_slice.new.self (search rules))

@@ -11,6 +11,6 @@ returns-then-i-piece c = cc
 pub returns-else-i-piece : goal.returns-else-i-piece
 unfolding mended
 returns-else-i-piece c =
-    let i = bit_xor c.args.parity.index c.parity-of-found.result.index in
-    let e = set_past c.args.piece.now i (bit_xor (get_or c.args.piece.now i 0) (bit_xor c.args.parity.sum c.parity-of-found.result.sum)) c.if-i-piece.false in
+    let i = bit_xor c.args.parity.index c.parity_of-found.result.index in
+    let e = set_past c.args.piece.now i (bit_xor (get_or c.args.piece.now i 0) (bit_xor c.args.parity.sum c.parity_of-found.result.sum)) c.if-i-piece.false in
     cc

@@ -8,10 +8,10 @@ use Rattle.std.proofs.lemmas.Bool.Decides.{Decides-eqb}
 pub returns-then-eq : goal.returns-then-eq
 returns-then-eq c =
     let u = c.args.area.now in
-    mark_then u c.copy-from-slice.new.self ((slice_eq-Decides Decides-eqb (take 32 u) (take 32 (drop 32 u)) c.eq.result c.eq.ensures).0 c.if-eq.true) (search rules)
+    mark_then u c.copy_from_slice.new.self ((slice_eq-Decides Decides-eqb (take 32 u) (take 32 (drop 32 u)) c.eq.result c.eq.ensures).0 c.if-eq.true) (search rules)
 
 pub returns-else-eq : goal.returns-else-eq
 returns-else-eq c =
     let u = c.args.area.now in
-    mark_else u c.copy-from-slice-else-eq.new.self
+    mark_else u c.copy_from_slice-else-eq.new.self
     (λ e. both_ways c.eq.result c.if-eq.false ((slice_eq-Decides Decides-eqb (take 32 u) (take 32 (drop 32 u)) c.eq.result c.eq.ensures).1 e)) (search rules)

@@ -9,8 +9,8 @@ loop-i-init c = refl
 
 pub loop-i-preserved : goal.loop-i-preserved
 loop-i-preserved c =
-    guard_more c.loop-i.i c.loop-i.out c.args.pieces.now c.parity-of-parity.result.sum c.parity-of-parity.result.index (omega arith) (omega arith) c.loop-i.invariant
-    c.parity-of-parity.ensures.sum c.parity-of-parity.ensures.index
+    guard_more c.loop-i.i c.loop-i.out c.args.pieces.now c.parity_of-parity.result.sum c.parity_of-parity.result.index (omega arith) (omega arith) c.loop-i.invariant
+    c.parity_of-parity.ensures.sum c.parity_of-parity.ensures.index
 
 pub returns : goal.returns
 returns c = guard_done c.loop-i.i c.loop-i.out c.args.pieces.now _ (omega arith) (omega arith) c.loop-i.invariant (search rules)

@@ -10,11 +10,11 @@ pub returns : goal.returns
 returns c =
     let page = c.args.page.now in
     let mark = c.args.mark.now in
-    let h = c.parity-of-all.result.index in
-    let last = c.write-at-2.new.page in
+    let h = c.parity_of-all.result.index in
+    let last = c.write_at-2.new.page in
     let s : last ≡ paged mark (take 4096 page) =
-    seal_done mark page c.write-mark.new.page c.write-at.new.page last c.parities.new.out h
-    (omega arith) (omega arith) (omega (arith, length-set c.write-at.new.page 4321 h)) (omega arith) c.parities.ensures c.parity-of-all.ensures.index
+    seal_done mark page c.write_mark.new.page c.write-at.new.page last c.parities.new.out h
+    (omega arith) (omega arith) (omega (arith, length-set c.write-at.new.page 4321 h)) (omega arith) c.parities.ensures c.parity_of-all.ensures.index
     (search rules) (search rules) (search rules) in
     record {
       sealed = s;

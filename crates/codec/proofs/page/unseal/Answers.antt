@@ -14,6 +14,6 @@ loop-i-preserved c =
 
 pub returns : goal.returns
 returns c =
-    let r = unseal_done c.loop-i.i c.loop-i.page c.args.page.now c.mend.new.piece c.copy-from-slice.new.self (omega arith) c.loop-i.invariant
-    c.mend.ensures c.copy-from-slice.ensures.after in
+    let r = unseal_done c.loop-i.i c.loop-i.page c.args.page.now c.mend.new.piece c.copy_from_slice.new.self (omega arith) c.loop-i.invariant
+    c.mend.ensures c.copy_from_slice.ensures.after in
     record { found = r.0; rest = r.1 }

@@ -9,4 +9,4 @@ returns-in-err-fill c =
     rw c.from-residual-in-err-fill.ensures (write_no_byte _ _ _ c.in-ok-read.ensures c.in-err-fill.ensures)
 
 pub returns : goal.returns
-returns c = write_is _ _ _ _ c.in-ok-read.ensures c.in-ok-fill.ensures
+returns c = write_is _ _ _ _ c.in_ok-read.ensures c.in_ok-fill.ensures

@@ -7,4 +7,4 @@ pub returns-in-err-number : goal.returns-in-err-number
 returns-in-err-number c = rw c.from-residual.ensures (whole_never field_text (λ n. n < 2 ^ 32) _ c.in-err-number.ensures)
 
 pub returns-then-number-gt0 : goal.returns-then-number-gt0
-returns-then-number-gt0 c = whole_more field_text (λ n. n < 2 ^ 32) _ _ _ c.in-ok-number.ensures c.if-number-gt0.true
+returns-then-number-gt0 c = whole_more field_text (λ n. n < 2 ^ 32) _ _ _ c.in_ok-number.ensures c.if-number-gt0.true

@@ -6,4 +6,4 @@ pub returns-in-err-span : goal.returns-in-err-span
 returns-in-err-span c = rw c.from-residual.ensures (whole_never span_text SpanFits _ c.in-err-span.ensures)
 
 pub returns-then-span-gt0 : goal.returns-then-span-gt0
-returns-then-span-gt0 c = whole_more span_text SpanFits _ _ _ c.in-ok-span.ensures c.if-span-gt0.true
+returns-then-span-gt0 c = whole_more span_text SpanFits _ _ _ c.in_ok-span.ensures c.if-span-gt0.true

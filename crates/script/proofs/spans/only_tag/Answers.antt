@@ -7,4 +7,4 @@ pub returns-in-err-tag : goal.returns-in-err-tag
 returns-in-err-tag c = rw c.from-residual.ensures (whole_never field_text (λ n. n < 256) _ c.in-err-tag.ensures)
 
 pub returns-then-tag-gt0 : goal.returns-then-tag-gt0
-returns-then-tag-gt0 c = whole_more field_text (λ n. n < 256) _ _ _ c.in-ok-tag.ensures c.if-tag-gt0.true
+returns-then-tag-gt0 c = whole_more field_text (λ n. n < 256) _ _ _ c.in_ok-tag.ensures c.if-tag-gt0.true

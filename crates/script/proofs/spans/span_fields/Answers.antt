@@ -14,4 +14,4 @@ returns-in-err-many c =
     (span-no-many _ _ _ c.in-ok-tag.ensures _ _ c.in-ok-from.ensures c.in-err-many.ensures)
 
 pub returns : goal.returns
-returns c = span-once _ _ _ c.in-ok-tag.ensures _ _ c.in-ok-from.ensures _ _ c.in-ok-many.ensures
+returns c = span-once _ _ _ c.in_ok-tag.ensures _ _ c.in_ok-from.ensures _ _ c.in_ok-many.ensures

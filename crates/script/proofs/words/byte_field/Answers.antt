@@ -4,4 +4,4 @@ use Rattle.script.proofs.words.byte_field.Goals as goal
 
 pub returns : goal.returns
 returns c =
-    byte_line c.args.line.now _ _ (search rules) (search rules) c.in-ok-high.ensures c.in-ok-low.ensures
+    byte_line c.args.line.now _ _ (search rules) (search rules) c.in_ok-high.ensures c.in_ok-low.ensures

@@ -13,7 +13,7 @@ returns-then-not-is-ascii-digit c =
     }
 
 pub loop-i-preserved : goal.loop-i-preserved
-loop-i-preserved c = digits_more 10 _ _ c.loop-i-test.true c.loop-i.invariant c.if-not-is-ascii-digit.ensures.bound
+loop-i-preserved c = digits_more 10 _ _ c.loop-i-test.true c.loop-i.invariant c.if-not-is_ascii_digit.ensures.bound
 
 pub returns : goal.returns
 returns c =

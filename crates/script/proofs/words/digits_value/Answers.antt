@@ -19,8 +19,8 @@ returns-in-err-n c =
 
 pub loop-c-preserved : goal.loop-c-preserved
 loop-c-preserved c =
-    let m = c.in-ok-checked-mul.ensures in
-    let a = c.in-ok-n.ensures in
+    let m = c.in_ok-checked_mul.ensures in
+    let a = c.in_ok-n.ensures in
     (omega arith, rw (a.1, m.1) (remaining_more _ _ _ _ c.loop-c-test.true c.loop-c.invariant.1).1)
 
 pub returns : goal.returns

@@ -9,4 +9,4 @@ returns-in-err-value c =
     rw c.from-residual.ensures (number_never _ _ _ c.split-digits.ensures (none_so_large _ c.in-err-value.ensures))
 
 pub returns : goal.returns
-returns c = number_once _ _ _ _ c.split-digits.ensures c.if-not-is-plain.ensures c.in-ok-value.ensures
+returns c = number_once _ _ _ _ c.split_digits.ensures c.if-not-is_plain.ensures c.in_ok-value.ensures
