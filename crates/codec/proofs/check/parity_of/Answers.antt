@@ -17,8 +17,8 @@ loop-i-preserved c =
     let f = places_more s i c.loop-i-test.true in
     (cc, cc)
 
-pub overflow-mul-index : goal.overflow-mul-index
-overflow-mul-index c = let h = times_bit c.loop-i.i (ones (get_or c.args.piece.now c.loop-i.i 0)) 256 (omega arith) in search rules
+pub overflow_mul-index : goal.overflow_mul-index
+overflow_mul-index c = let h = times_bit c.loop-i.i (ones (get_or c.args.piece.now c.loop-i.i 0)) 256 (omega arith) in search rules
 
 pub returns : goal.returns
 returns c =

@@ -10,15 +10,15 @@ pub loop-i-init : goal.loop-i-init
 unfolding apart
 loop-i-init c = (refl, omega arith)
 
-pub overflow-cast-n : goal.overflow-cast-n
-overflow-cast-n c =
+pub overflow_cast-n : goal.overflow_cast-n
+overflow_cast-n c =
     let f : get_or c.args.a.now c.loop-i.i 0 < 256 = search rules in
     let g : get_or c.args.b.now c.loop-i.i 0 < 256 = search rules in
     let h = xor_ones_le (get_or c.args.a.now c.loop-i.i 0) (get_or c.args.b.now c.loop-i.i 0) f g in
     search rules
 
-pub overflow-add-n : goal.overflow-add-n
-overflow-add-n c =
+pub overflow_add-n : goal.overflow_add-n
+overflow_add-n c =
     let f : get_or c.args.a.now c.loop-i.i 0 < 256 = search rules in
     let g : get_or c.args.b.now c.loop-i.i 0 < 256 = search rules in
     let h = xor_ones_le (get_or c.args.a.now c.loop-i.i 0) (get_or c.args.b.now c.loop-i.i 0) f g in

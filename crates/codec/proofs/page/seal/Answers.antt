@@ -13,10 +13,10 @@ returns c =
     let h = c.parity_of-all.result.index in
     let last = c.write_at-2.new.page in
     let s : last ≡ paged mark (take 4096 page) =
-    seal_done mark page c.write_mark.new.page c.write-at.new.page last c.parities.new.out h
-    (omega arith) (omega arith) (omega (arith, length-set c.write-at.new.page 4321 h)) (omega arith) c.parities.ensures c.parity_of-all.ensures.index
+    seal_done mark page c.write_mark.new.page c.write_at.new.page last c.parities.new.out h
+    (omega arith) (omega arith) (omega (arith, length-set c.write_at.new.page 4321 h)) (omega arith) c.parities.ensures c.parity_of-all.ensures.index
     (search rules) (search rules) (search rules) in
     record {
       sealed = s;
-      bytes = (all_each mark (λ i. Fits-lt-pow (c.type-inv.mark i)), data_bytes mark page last (omega arith) s (all_each last (λ i. Fits-lt-pow (c.type-inv.page i))));
+      bytes = (all_each mark (λ i. Fits-lt-pow (c.type_inv.mark i)), data_bytes mark page last (omega arith) s (all_each last (λ i. Fits-lt-pow (c.type_inv.page i))));
     }
