@@ -1,5 +1,5 @@
 use Rattle.script.proofs.Texts.{read-never}
 use Rattle.script.proofs.commands.parse_read.Goals as goal
 
-pub returns-in-err-tag : goal.returns-in-err-tag
-returns-in-err-tag c = rw c.from-residual.ensures (read-never _ c.in-err-tag.ensures)
+pub returns-in_err-tag : goal.returns-in_err-tag
+returns-in_err-tag c = rw c.from_residual.ensures (read-never _ c.in_err-tag.ensures)

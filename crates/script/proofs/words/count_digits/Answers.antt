@@ -4,12 +4,12 @@ use Rattle.std.proofs.lemmas.Int.Digits.{digits_more}
 use Rattle.script.proofs.Digits.{ends_at, ends_all}
 use Rattle.script.proofs.words.count_digits.Goals as goal
 
-pub returns-then-not-is-ascii-digit : goal.returns-then-not-is-ascii-digit
-returns-then-not-is-ascii-digit c =
+pub returns-then-not-is_ascii_digit : goal.returns-then-not-is_ascii_digit
+returns-then-not-is_ascii_digit c =
     record {
       within = omega arith;
       digits = c.loop-i.invariant;
-      ends = ends_at _ _ c.loop-i-test.true (λ d. omega (arith, c.if-not-is-ascii-digit.ensures.cases));
+      ends = ends_at _ _ c.loop-i-test.true (λ d. omega (arith, c.if-not-is_ascii_digit.ensures.cases));
     }
 
 pub loop-i-preserved : goal.loop-i-preserved
