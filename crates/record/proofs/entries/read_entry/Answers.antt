@@ -10,4 +10,4 @@ use Rattle.record.proofs.entries.read_entry.Goals as goal
 pub returns : goal.returns
 unfolding entry_at
 returns c =
-    through tag_of tag_bytes tags_same _ c.read-tag.result c.content-of.result (sym (part (40 + 8 * c.args.i) 8 c.args.page.now (tag_bytes c.read-tag.result) (search rules))) c.content-of.ensures
+    through tag_of tag_bytes tags_same _ c.read_tag.result c.content_of.result (sym (part (40 + 8 * c.args.i) 8 c.args.page.now (tag_bytes c.read_tag.result) (search rules))) c.content_of.ensures

@@ -5,5 +5,5 @@ use Rattle.record.proofs.entries.read_fields.Goals as goal
 
 pub returns : goal.returns
 returns c =
-    header_read c.args.bytes.now _ (λ k. Fits-lt-pow (c.type-inv.bytes k)) c.requires
+    header_read c.args.bytes.now _ (λ k. Fits-lt-pow (c.type_inv.bytes k)) c.requires
     (search rules) (search rules) (search rules) (search rules) (search rules) (search rules)

@@ -8,10 +8,10 @@ pub returns : goal.returns
 returns c =
     let i = c.args.i in
     let xs = c.args.page.now in
-    let ys = c.write-tag.new.out in
-    let l : length ys ≡ 8 = ap length c.write-tag.ensures ∙ length_tag c.tag-of.result in
+    let ys = c.write_tag.new.out in
+    let l : length ys ≡ 8 = ap length c.write_tag.ensures ∙ length_tag c.tag_of.result in
     record {
-      here = entry_here i _ _ xs ys c.requires (omega arith) (omega arith) l ∙ c.write-tag.ensures ∙ ap tag_bytes c.tag-of.ensures;
+      here = entry_here i _ _ xs ys c.requires (omega arith) (omega arith) l ∙ c.write_tag.ensures ∙ ap tag_bytes c.tag_of.ensures;
       others = entry_kept i _ _ xs ys c.requires (omega arith) (omega arith) l;
       fixed = fixed_kept i _ _ xs ys c.requires (omega arith) (omega arith) l;
     }

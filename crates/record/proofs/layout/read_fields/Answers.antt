@@ -5,5 +5,5 @@ use Rattle.record.proofs.layout.read_fields.Goals as goal
 
 pub returns : goal.returns
 returns c =
-    fields_read c.args.bytes.now _ (λ k. Fits-lt-pow (c.type-inv.bytes k)) c.requires c.read-tag.ensures
+    fields_read c.args.bytes.now _ (λ k. Fits-lt-pow (c.type_inv.bytes k)) c.requires c.read_tag.ensures
     (search rules) (search rules) (search rules) (search rules)

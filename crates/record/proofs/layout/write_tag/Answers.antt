@@ -6,5 +6,5 @@ use Rattle.record.proofs.layout.write_tag.Goals as goal
 pub returns : goal.returns
 returns c =
     let o = c.args.out.now in
-    tag_written c.args.tag (set (set o 0 _) 1 _) c.write-u16.new.s c.write-u32.new.s (omega (arith, length-set {A = ℕ})) (two_set o _ _ c.args.tag.kind c.args.tag.flag (omega arith) (search rules) (search rules))
-    c.write-u16.ensures.front (search rules)
+    tag_written c.args.tag (set (set o 0 _) 1 _) c.write_u16.new.s c.write_u32.new.s (omega (arith, length-set {A = ℕ})) (two_set o _ _ c.args.tag.kind c.args.tag.flag (omega arith) (search rules) (search rules))
+    c.write_u16.ensures.front (search rules)
