@@ -1,12 +1,12 @@
 -- The two copies of the definitions on bits, this crate's and codec's, agree; so what codec proves of its pages holds here. Assumes nothing.
-use Rattle.std.proofs.Common.{◌≡◌, ℕ, zero, suc, ◌+◌, ◌/◌, ◌%◌, ◌≤◌, Bool, cond, ◌&&◌, T, eqb, leb, List, [], ◌∷◌, take, drop, sym, refl, ap, ◌∙◌, subst, ap₂}
+use Rattle.std.proofs.Common.{◌≡◌, ℕ, zero, suc, ◌+◌, ◌/◌, ◌%◌, ◌≤◌, Bool, cond, ◌&&◌, T, eqb, leb, List, [], ◌∷◌, take, drop, sym, refl, ap, subst, ap₂}
 use Rattle.drive.specs.Bits as D
 use Rattle.codec.specs.Bits as C
 use Rattle.drive.specs.Promise.{MarksTold}
 use Rattle.codec.proofs.Marks.{marks_told}
 use Rattle.codec.proofs.Pages.{page_told, torn_told, blank_told}
 use Rattle.codec.specs.Pages.{paged}
-use Rattle.drive.specs.Nand.{Written, Torn, Blank, blank, written, torn}
+use Rattle.drive.specs.Nand.{blank, written, torn}
 use Rattle.drive.specs.Shown.{Tells, WrittenShown, TornShown, BlankShown}
 
 pub every_is : {A : Type 0} (f : A → Bool) (s : List A) → D.every f s ≡ C.every f s

@@ -1,13 +1,12 @@
 -- Heads: what opening and writing gives, from the data sheet alone. Assumes nothing.
-use Rattle.std.proofs.Common.{◌≡◌, ℕ, ◌+◌, ◌-◌, ◌<◌, ◌≤◌, Bool, true, false, cond, not, T, eqb, ◌⊎◌, List, Ok, Err, sym, refl, ap, subst, inl, inr, arith}
-use Rattle.std.proofs.lemmas.Bool.Decides.{nat_tests}
+use Rattle.std.proofs.Common.{ℕ, ◌+◌, ◌-◌, ◌<◌, ◌≤◌, List, Ok, refl, arith}
 use Rattle.drive.specs.Nand.{Nand, Erasing, Programming, MayErase}
 use Rattle.drive.specs.ChipOps.{Erases, Holds, Programs}
-use Rattle.drive.specs.declared.Answer.TheVariants.{Fine, Failed, Dark}
+use Rattle.drive.specs.declared.Answer.TheVariants.{Fine}
 use Rattle.drive.specs.declared.chip_ops.Erased.TheVariants.{Ready}
 use Rattle.drive.specs.declared.chip_ops.Programmed.TheVariants.{Next, Full}
 use Rattle.drive.specs.declared.chip_ops.Head.{Head}
-use Rattle.drive.proofs.Sheet.{eqb_refl, T_true, true_T, not_T}
+use Rattle.drive.proofs.Sheet.{eqb_refl, not_T}
 
 pub opened : {n : Nand} {k : ℕ} {m : Nand} → 0 < n.pages → MayErase n k → Erasing n k Fine m → Erases n k (Ok (Ready (record { block = k; next = 0 }))) m
 opened {n} {k} some may (Erasing.done on) = (refl, refl, refl, record { inside = may.1; clean = simp eqb_refl; sound = simp eqb_refl (not_T (n.block k).bad may.2); here = simp eqb_refl; within = some })

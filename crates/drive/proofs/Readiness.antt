@@ -1,5 +1,5 @@
 -- Ready, opened and made again after an ask. Assumes nothing.
-use Rattle.std.proofs.Common.{◌≡◌, ℕ, ◌+◌, ◌-◌, ◌*◌, ◌<◌, ◌≤◌, Bool, true, false, List, length, IfSome, Some, None, Ok, Option, sym, refl, ap, ◌∙◌, subst, arith}
+use Rattle.std.proofs.Common.{◌≡◌, ℕ, ◌+◌, ◌-◌, ◌*◌, ◌≤◌, List, length, IfSome, Some, None, Ok, Option, sym, refl, ap, ◌∙◌, subst, arith}
 use Rattle.drive.specs.Nand.{Nand, Block, counted, put_block}
 use Rattle.drive.specs.ChipOps.{Holds, Programs, Erases}
 use Rattle.drive.specs.declared.chip_ops.Erased.{Erased}
@@ -8,7 +8,7 @@ use Rattle.drive.specs.declared.chip_ops.Programmed.{Programmed}
 use Rattle.drive.specs.declared.chip_ops.Programmed.TheVariants.{Next, Full, Failed as ProgramFailed}
 use Rattle.drive.specs.declared.chip_ops.Head.{Head}
 use Rattle.drive.specs.declared.room.Shape.{Shape}
-use Rattle.drive.specs.Journals.{Sound, Parts, Ready, Steady, Alike, Noted, Stands, Stays, Allowed, Sized, Unknown}
+use Rattle.drive.specs.Journals.{Sound, Parts, Ready, Steady, Noted, Stands, Stays, Allowed, Sized, Unknown}
 use Rattle.drive.specs.declared.journal.Journal.{Journal}
 
 pub open_ready : (n : Nand) (j : Journal) (room : List ℕ) → Ready n j room → Parts n j room

@@ -1,12 +1,12 @@
 -- What every run keeps, step by step. Assumes nothing.
-use Rattle.std.proofs.Common.{◌≡◌, ℕ, zero, suc, ◌+◌, ◌-◌, ◌*◌, ◌<◌, ◌≤◌, Bool, true, false, cond, ◌&&◌, ◌||◌, T, eqb, ltb, leb, ◌⊎◌, List, [], ◌∷◌, map, take, drop, sym, refl, ap, ◌∙◌, subst, inl, inr, ⊎_elim, arith}
+use Rattle.std.proofs.Common.{◌≡◌, ℕ, ◌+◌, ◌<◌, ◌≤◌, Bool, true, false, cond, ◌&&◌, eqb, ltb, leb, ◌⊎◌, List, ◌∷◌, sym, refl, ap, ◌∙◌, subst, inl, inr, ⊎_elim, arith}
 use mathlib.Core.List.Memᴰ
 use mathlib.Core.List.{Memᴰ}
-use Rattle.std.proofs.lemmas.Bool.{cond_both, cases_Bool, eqb-true, eqb-false, and_parts, and_cases, or_parts, cases_eq}
+use Rattle.std.proofs.lemmas.Bool.{cond_both, cases_Bool, eqb-true, eqb-false, and_parts, or_parts, cases_eq}
 use Rattle.drive.specs.Bits.{some'}
-use Rattle.drive.specs.Host.{Cmd, Read, Write, Trim, Flush, Event, Asked, Way, Seen, Run, all, noughts, span, sectors_of, without, put_way, takes, lasting, gone, new_content, with_way, less, begun, ended, older, tag_taken, why, wrong, size_of}
+use Rattle.drive.specs.Host.{Cmd, Read, Write, Trim, Flush, Event, Asked, Way, Seen, Run, noughts, sectors_of, without, takes, lasting, new_content, with_way, less, tag_taken, why, wrong}
 use Rattle.drive.specs.Promise.{Brought, NothingMadeUp, LowRises, OneEach}
-use Rattle.drive.proofs.Ways.{of_cons, in_put, in_gone, in_map, in_without, in_span, Free, Single, single_none, single_more, single_put, single_gone, single_map, free_tag, single_same}
+use Rattle.drive.proofs.Ways.{of_cons, in_put, in_gone, in_map, in_without, in_span, Single, single_none, single_more, single_put, single_gone, single_map, free_tag, single_same}
 
 -- ---- what lasts, and what a flush has to make lasting, is a content that was there
 

@@ -1,7 +1,7 @@
 -- The data sheet read backwards: what a chip's answer says of it. Assumes nothing.
-use Rattle.std.proofs.Common.{◌≡◌, ℕ, ◌+◌, ◌-◌, ◌<◌, ◌≤◌, Bool, true, false, cond, not, T, eqb, ◌⊎◌, List, sym, refl, ap, subst, inl, inr}
+use Rattle.std.proofs.Common.{◌≡◌, ℕ, Bool, true, false, cond, not, T, eqb, ◌⊎◌, List, sym, refl, ap, subst, inl, inr}
 use Rattle.std.proofs.lemmas.Bool.{eq-eqb, ne_eqb}
-use Rattle.drive.specs.Nand.{Nand, Block, Page, Written, Torn, put_block, put_page, broken, erased, half_erased, dark, counted, MayFail, Shows}
+use Rattle.drive.specs.Nand.{Nand, Written, Torn, put_block, put_page, broken, erased, half_erased, dark, counted, MayFail, Shows}
 use Rattle.drive.specs.Nand.{Reading, Programming, Erasing}
 use Rattle.drive.specs.declared.Answer.{Answer}
 use Rattle.drive.specs.declared.Answer.TheVariants.{Fine, Failed, Dark}

@@ -5,7 +5,6 @@ use Rattle.drive.specs.Nand.{Nand}
 use Rattle.drive.specs.ChipOps.{Holds}
 use Rattle.drive.specs.Room.{Lent}
 use Rattle.drive.specs.declared.Gone.{Gone}
-use Rattle.drive.specs.declared.chip_ops.Head.{Head}
 use Rattle.drive.specs.declared.journal.Journal.{Journal}
 
 -- the room is large enough, and the journal names blocks that are there

@@ -1,6 +1,6 @@
 -- What the drive's own functions keep.
 -- Assumes nothing.
-use Rattle.std.specs.Prelude.{◌≡◌, ℕ, ◌*◌, ◌/◌, ◌<◌, ◌≤◌, Bool, false, List, Some, None, Ok, Err, Option, Result, ◌≢◌}
+use Rattle.std.specs.Prelude.{◌≡◌, ℕ, ◌*◌, ◌/◌, ◌<◌, false, List, Some, None, Ok, Err, Option, Result, ◌≢◌}
 use Rattle.drive.specs.Nand.{Nand}
 use Rattle.drive.specs.Journals.{Ready}
 use Rattle.drive.specs.Queue.{slot_at}

@@ -2,7 +2,7 @@
 -- Assumes nothing.
 use Rattle.std.specs.Prelude.{◌≡◌, ℕ, ◌≤◌, T, List, length, take, drop}
 use Rattle.drive.specs.Bits.{all_bytes, apart, mark}
-use Rattle.drive.specs.Nand.{Page, Blank, Written, Torn, Shows}
+use Rattle.drive.specs.Nand.{Blank, Written, Torn, Shows}
 use Rattle.codec.specs.Pages.{paged, data_in, mark_in}
 
 -- what was read tells the mark w

@@ -1,6 +1,6 @@
 -- Which header comes after which.
 -- Assumes nothing.
-use Rattle.std.specs.Prelude.{ℕ, Bool, cond, ◌&&◌, ◌||◌, Some, None, Option, ◌==◌, nat_lt}
+use Rattle.std.specs.Prelude.{Bool, cond, ◌&&◌, ◌||◌, Some, None, Option, ◌==◌, nat_lt}
 use Rattle.drive.specs.declared.survey.Candidate.{Candidate}
 
 -- more blocks were bad when it was taken, or as many and its number is higher

@@ -17,9 +17,9 @@ impl Journal {
         room: &mut [u8],
         commit: PageIndex,
     ) -> Result<Option<u32>, Gone>
-        requires ready { Ready (nand c.old) self.old room.old }
+        requires ready { Ready (C.nand c.old) self.old room.old }
         requires soon { 2 ≤ self.old.asks }
-        ensures went { Went 2 result self.old (nand c.new) self.new room.new }
+        ensures went { Went 2 result self.old (C.nand c.new) self.new room.new }
         ensures inside { Inside result self.new }
     {
         let Some(block) = self.lowest(c, room) else {
@@ -46,9 +46,9 @@ impl Journal {
         content: Content,
         commit: PageIndex,
     ) -> Result<bool, Gone>
-        requires ready { Ready (nand c.old) self.old room.old }
+        requires ready { Ready (C.nand c.old) self.old room.old }
         requires soon { 3 ≤ self.old.asks }
-        ensures { Went 3 result self.old (nand c.new) self.new room.new }
+        ensures { Went 3 result self.old (C.nand c.new) self.new room.new }
     {
         if self.head.is_none() {
             let done = self.append_behind(c, room, content, commit)?;
@@ -70,9 +70,9 @@ impl Journal {
         content: Content,
         commit: PageIndex,
     ) -> Result<bool, Gone>
-        requires ready { Ready (nand c.old) self.old room.old }
+        requires ready { Ready (C.nand c.old) self.old room.old }
         requires soon { 3 ≤ self.old.asks }
-        ensures { Went 3 result self.old (nand c.new) self.new room.new }
+        ensures { Went 3 result self.old (C.nand c.new) self.new room.new }
     {
         self.release_kept(room);
         let Some(block) = self.open_block(c, room, commit)? else {

@@ -103,8 +103,8 @@ impl Journal {
         head: Candidate,
         tail: u64,
     ) -> Result<Belief, Gone>
-        requires ready { Ready (nand c.old) self.old room.old }
-        ensures { Rose result self.old (nand c.new) self.new room.new }
+        requires ready { Ready (C.nand c.old) self.old room.old }
+        ensures { Rose result self.old (C.nand c.new) self.new room.new }
     {
         let mut belief = Belief {
             count: 0,

@@ -32,9 +32,9 @@ pub enum Programmed {
 
 // Erases a block, which is then ready to be filled.
 pub fn erase_block<C: Chip>(c: &mut C, block: u32) -> Result<Erased, Gone>
-    requires may { MayErase (nand c.old) block }
-    requires some { 0 < (nand c.old).pages }
-    ensures { Erases (nand c.old) block result (nand c.new) }
+    requires may { MayErase (C.nand c.old) block }
+    requires some { 0 < (C.nand c.old).pages }
+    ensures { Erases (C.nand c.old) block result (C.nand c.new) }
 {
     match c.erase(block) {
         Answer::Fine => Ok(Erased::Ready(Head { block, next: 0 })),
@@ -45,10 +45,10 @@ pub fn erase_block<C: Chip>(c: &mut C, block: u32) -> Result<Erased, Gone>
 
 // Programs the next page of a block that is being filled.
 pub fn program_next<C: Chip>(c: &mut C, head: Head, from: &[u8]) -> Result<Programmed, Gone>
-    requires holds { Holds (nand c.old) head }
-    requires soon { 0 < (nand c.old).left }
+    requires holds { Holds (C.nand c.old) head }
+    requires soon { 0 < (C.nand c.old).left }
     requires whole { length from.now ≡ 4352 }
-    ensures { Programs (nand c.old) head from.now result (nand c.new) }
+    ensures { Programs (C.nand c.old) head from.now result (C.nand c.new) }
 {
     let Head { block, next } = head;
     let more = c.pages() - next > 1;
@@ -65,9 +65,9 @@ pub fn program_next<C: Chip>(c: &mut C, head: Head, from: &[u8]) -> Result<Progr
 
 // Reads a page as the chip shows it.
 pub fn read_page<C: Chip>(c: &mut C, block: u32, page: u32, into: &mut [u8]) -> Result<(), Gone>
-    requires may { MayRead (nand c.old) block page }
+    requires may { MayRead (C.nand c.old) block page }
     requires lent { length into.old ≡ 4352 }
-    ensures { Reads (nand c.old) block page into.new result (nand c.new) }
+    ensures { Reads (C.nand c.old) block page into.new result (C.nand c.new) }
 {
     match c.read(block, page, into) {
         Answer::Fine => Ok(()),
@@ -82,9 +82,9 @@ pub fn read_mark<C: Chip>(
     block: u32,
     page: u32,
 ) -> Result<Option<Mark>, Gone>
-    requires may { MayRead (nand c.old) block page }
+    requires may { MayRead (C.nand c.old) block page }
     requires lent { 1048576 ≤ length room.old }
-    ensures { Looked (nand c.old) result (nand c.new) }
+    ensures { Looked (C.nand c.old) result (C.nand c.new) }
 {
     read_page(c, block, page, &mut room[PAGE..LIST])?;
     let mark = shown(&room[PAGE..LIST]);

@@ -138,9 +138,9 @@ impl Journal {
 impl Journal {
     // Looks at the oldest record: if it is still needed it is copied, and the tail moves on. False if that failed.
     pub fn look<C: Chip>(&mut self, c: &mut C, room: &mut [u8]) -> Result<bool, Gone>
-        requires ready { Ready (nand c.old) self.old room.old }
+        requires ready { Ready (C.nand c.old) self.old room.old }
         requires soon { 4 ≤ self.old.asks }
-        ensures { Went 4 result self.old (nand c.new) self.new room.new }
+        ensures { Went 4 result self.old (C.nand c.new) self.new room.new }
     {
         let page = self.oldest_page(room);
         let block = self.tail_block;
@@ -166,9 +166,9 @@ impl Journal {
 
     // Copies the oldest record, which was just read, to the head, and moves the tail on.
     fn copy<C: Chip>(&mut self, c: &mut C, room: &mut [u8], content: Content) -> Result<bool, Gone>
-        requires ready { Ready (nand c.old) self.old room.old }
+        requires ready { Ready (C.nand c.old) self.old room.old }
         requires soon { 3 ≤ self.old.asks }
-        ensures { Went 3 result self.old (nand c.new) self.new room.new }
+        ensures { Went 3 result self.old (C.nand c.new) self.new room.new }
     {
         self.mend_page(room);
         if !self.append(c, room, as_copy(content), PageIndex { index: 1 })? {

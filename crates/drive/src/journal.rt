@@ -56,10 +56,10 @@ impl Journal {
         block: u32,
         page: u32,
     ) -> Result<Option<Mark>, Gone>
-        requires ready { Ready (nand c.old) self.old room.old }
+        requires ready { Ready (C.nand c.old) self.old room.old }
         requires soon { 1 ≤ self.old.asks }
         requires within { (block < self.old.shape.blocks) × (page < self.old.shape.pages) }
-        ensures { Went 1 result self.old (nand c.new) self.new room.new }
+        ensures { Went 1 result self.old (C.nand c.new) self.new room.new }
     {
         let mark = read_mark(c, room, block, page)?;
         self.asks -= 1;
@@ -74,10 +74,10 @@ impl Journal {
         block: u32,
         page: u32,
     ) -> Result<Option<RecordMark>, Gone>
-        requires ready { Ready (nand c.old) self.old room.old }
+        requires ready { Ready (C.nand c.old) self.old room.old }
         requires soon { 1 ≤ self.old.asks }
         requires within { (block < self.old.shape.blocks) × (page < self.old.shape.pages) }
-        ensures { Went 1 result self.old (nand c.new) self.new room.new }
+        ensures { Went 1 result self.old (C.nand c.new) self.new room.new }
     {
         let Some(mark) = self.show(c, room, block, page)? else {
             return Ok(None);
@@ -87,10 +87,10 @@ impl Journal {
 
     // Programs a page of the room as the head's next page; false if there is no head, or its block went bad.
     pub fn put<C: Chip>(&mut self, c: &mut C, room: &[u8], at: usize) -> Result<bool, Gone>
-        requires ready { Ready (nand c.old) self.old room.now }
+        requires ready { Ready (C.nand c.old) self.old room.now }
         requires soon { 1 ≤ self.old.asks }
         requires within { at ≤ 266496 }
-        ensures { Went 1 result self.old (nand c.new) self.new room.now }
+        ensures { Went 1 result self.old (C.nand c.new) self.new room.now }
     {
         let Some(head) = self.head.take() else {
             return Ok(false);
@@ -111,10 +111,10 @@ impl Journal {
 
     // Erases a block, which is then the head with a number above all others; false if it went bad.
     pub fn take_block<C: Chip>(&mut self, c: &mut C, room: &[u8], block: u32) -> Result<bool, Gone>
-        requires ready { Ready (nand c.old) self.old room.now }
+        requires ready { Ready (C.nand c.old) self.old room.now }
         requires soon { 1 ≤ self.old.asks }
-        requires within { (block < (nand c.old).blocks) × (((nand c.old).block block).bad ≡ false) }
-        ensures { Went 1 result self.old (nand c.new) self.new room.now }
+        requires within { (block < (C.nand c.old).blocks) × (((C.nand c.old).block block).bad ≡ false) }
+        ensures { Went 1 result self.old (C.nand c.new) self.new room.now }
     {
         self.asks -= 1;
         self.head = None;
@@ -133,8 +133,8 @@ impl Journal {
 
     // The free block with the lowest number, if one is left.
     pub fn lowest<C: Chip>(&self, c: &C, room: &[u8]) -> Option<u32>
-        requires ready { Ready (nand c.now) self.now room.now }
-        ensures { IfSome result (λ b. Free (nand c.now) b) }
+        requires ready { Ready (C.nand c.now) self.now room.now }
+        ensures { IfSome result (λ b. Free (C.nand c.now) b) }
     {
         let mut best = self.shape.blocks;
         let mut least = u64::MAX;

@@ -45,38 +45,38 @@ pub trait Chip {
     ghost nand: { Self → Nand };
 
     fn blocks(&self) -> u32
-        ensures { result ≡ (nand self.now).blocks };
+        ensures { result ≡ (Self.nand self.now).blocks };
 
     // in each block
     fn pages(&self) -> u32
-        ensures { result ≡ (nand self.now).pages };
+        ensures { result ≡ (Self.nand self.now).pages };
 
     fn is_bad(&self, block: u32) -> bool
-        requires { block < (nand self.now).blocks }
-        ensures { result ≡ ((nand self.now).block block).bad };
+        requires { block < (Self.nand self.now).blocks }
+        ensures { result ≡ ((Self.nand self.now).block block).bad };
 
     fn read(&mut self, block: u32, page: u32, into: &mut [u8]) -> Answer
-        requires { (MayRead (nand self.old) block page) × (length into.old ≡ 4352) }
-        ensures { Reading (nand self.old) block page into.new result (nand self.new) };
+        requires { (MayRead (Self.nand self.old) block page) × (length into.old ≡ 4352) }
+        ensures { Reading (Self.nand self.old) block page into.new result (Self.nand self.new) };
 
     fn program(&mut self, block: u32, page: u32, from: &[u8]) -> Answer
-        requires { MayProgram (nand self.old) block page from.now }
-        ensures { Programming (nand self.old) block page from.now result (nand self.new) };
+        requires { MayProgram (Self.nand self.old) block page from.now }
+        ensures { Programming (Self.nand self.old) block page from.now result (Self.nand self.new) };
 
     fn erase(&mut self, block: u32) -> Answer
-        requires { MayErase (nand self.old) block }
-        ensures { Erasing (nand self.old) block result (nand self.new) };
+        requires { MayErase (Self.nand self.old) block }
+        ensures { Erasing (Self.nand self.old) block result (Self.nand self.new) };
 }
 
 // What the drive doesn't see.
 pub trait Bench: Chip {
     // so often it may be asked now
     fn allow(&mut self, asks: u64)
-        ensures { nand self.new ≡ allowed asks (nand self.old) };
+        ensures { Self.nand self.new ≡ allowed asks (Self.nand self.old) };
     // The power, which has gone, comes back. Nothing is known of what memory holds.
     fn power(&mut self, room: &mut [u8])
-        requires { (nand self.old).on ≡ false }
-        ensures { nand self.new ≡ lit (nand self.old) };
+        requires { (Self.nand self.old).on ≡ false }
+        ensures { Self.nand self.new ≡ lit (Self.nand self.old) };
 }
 
 #[derive(Clone, Copy)]
@@ -94,30 +94,30 @@ pub trait Host {
     ghost space: { Self → ℕ };
 
     fn more(&self) -> bool
-        ensures { T result → 8 ≤ space self.now };
+        ensures { T result → 8 ≤ Self.space self.now };
     // Something is asked, under a tag; what is to be written stands in bytes.
     fn next(&mut self, bytes: &mut [u8]) -> Option<(u8, Ask)>
-        ensures { (seen self.new ≡ seen self.old) × (space self.new ≡ space self.old) };
+        ensures { (Self.seen self.new ≡ Self.seen self.old) × (Self.space self.new ≡ Self.space self.old) };
 
     fn said(&mut self, tag: u8, a: Ask, bytes: &[u8], why: u8, total: u32)
-        requires { (Explained can total (said why tag (cmd_of a bytes.now) ∷ seen self.old)) × ((0 < space self.old) × (length bytes.now ≡ 32768)) }
-        ensures { (seen self.new ≡ said why tag (cmd_of a bytes.now) ∷ seen self.old) × (space self.old ≤ space self.new + 1) };
+        requires { (Explained can total (said why tag (cmd_of a bytes.now) ∷ Self.seen self.old)) × ((0 < Self.space self.old) × (length bytes.now ≡ 32768)) }
+        ensures { (Self.seen self.new ≡ said why tag (cmd_of a bytes.now) ∷ Self.seen self.old) × (Self.space self.old ≤ Self.space self.new + 1) };
 
     fn told(&mut self, tag: u8, a: Ask, bytes: &[u8], total: u32)
-        requires { (Explained can total (Told tag (tells a bytes.now) ∷ seen self.old)) × ((0 < space self.old) × (length bytes.now ≤ 32768)) }
-        ensures { (seen self.new ≡ Told tag (tells a bytes.now) ∷ seen self.old) × (space self.old ≤ space self.new + 1) };
+        requires { (Explained can total (Told tag (tells a bytes.now) ∷ Self.seen self.old)) × ((0 < Self.space self.old) × (length bytes.now ≤ 32768)) }
+        ensures { (Self.seen self.new ≡ Told tag (tells a bytes.now) ∷ Self.seen self.old) × (Self.space self.old ≤ Self.space self.new + 1) };
 
     fn turned(&mut self, total: u32)
-        requires { (Explained can total (Turned ∷ seen self.old)) × (0 < space self.old) }
-        ensures { (seen self.new ≡ Turned ∷ seen self.old) × (space self.old ≤ space self.new + 1) };
+        requires { (Explained can total (Turned ∷ Self.seen self.old)) × (0 < Self.space self.old) }
+        ensures { (Self.seen self.new ≡ Turned ∷ Self.seen self.old) × (Self.space self.old ≤ Self.space self.new + 1) };
 
     fn up(&mut self)
-        requires { 0 < space self.old }
-        ensures { (seen self.new ≡ Up ∷ seen self.old) × (space self.old ≤ space self.new + 1) };
+        requires { 0 < Self.space self.old }
+        ensures { (Self.seen self.new ≡ Up ∷ Self.seen self.old) × (Self.space self.old ≤ Self.space self.new + 1) };
 
     fn cut(&mut self)
-        requires { 0 < space self.old }
-        ensures { (seen self.new ≡ Cut ∷ seen self.old) × (space self.old ≤ space self.new + 1) };
+        requires { 0 < Self.space self.old }
+        ensures { (Self.seen self.new ≡ Cut ∷ Self.seen self.old) × (Self.space self.old ≤ Self.space self.new + 1) };
 }
 
 // The power has gone.
@@ -137,11 +137,11 @@ pub struct Ended {
 }
 
 pub fn open<C: Chip>(c: &mut C, room: &mut [u8]) -> Result<Drive, Gone>
-    requires soon { 16 * (nand c.old).blocks + 65536 ≤ (nand c.old).left }
-    requires sized { Sized (nand c.old) }
-    requires lent { room_of (nand c.old).blocks ((nand c.old).blocks * (nand c.old).pages) ≤ length room.old }
-    ensures only { is_ok result ≡ false → (nand c.new).on ≡ false }
-    ensures came { Came result (nand c.new) room.new }
+    requires soon { 16 * (C.nand c.old).blocks + 65536 ≤ (C.nand c.old).left }
+    requires sized { Sized (C.nand c.old) }
+    requires lent { room_of (C.nand c.old).blocks ((C.nand c.old).blocks * (C.nand c.old).pages) ≤ length room.old }
+    ensures only { is_ok result ≡ false → (C.nand c.new).on ≡ false }
+    ensures came { Came result (C.nand c.new) room.new }
 {
     let mut journal = Journal::unknown(c.blocks(), c.pages());
     journal.come_up(c, room)?;
@@ -183,11 +183,11 @@ impl Drive {
         room: &mut [u8],
         out: &mut [u8],
     ) -> Result<Option<Ended>, Gone>
-        requires soon { 64 ≤ (nand c.old).left }
-        requires stands { Standing (nand c.old) self.old room.old }
+        requires soon { 64 ≤ (C.nand c.old).left }
+        requires stands { Standing (C.nand c.old) self.old room.old }
         requires lent { length out.old ≡ 32768 }
-        ensures only { is_ok result ≡ false → (nand c.new).on ≡ false }
-        ensures kept { Kept result (nand c.new) self.new room.new }
+        ensures only { is_ok result ≡ false → (C.nand c.new).on ≡ false }
+        ensures kept { Kept result (C.nand c.new) self.new room.new }
         ensures turns { Turns self.old.queue result self.new.queue }
     {
         self.journal.allow(room, 64);

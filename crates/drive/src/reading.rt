@@ -53,10 +53,10 @@ impl Journal {
         out: &mut [u8],
         at: usize,
     ) -> Result<bool, Gone>
-        requires ready { Ready (nand c.old) self.old room.old }
+        requires ready { Ready (C.nand c.old) self.old room.old }
         requires soon { 1 ≤ self.old.asks }
         requires within { at + 4096 ≤ length out.old }
-        ensures { Went 1 result self.old (nand c.new) self.new room.new }
+        ensures { Went 1 result self.old (C.nand c.new) self.new room.new }
     {
         let place = self.find(room, sector);
         if place == 0 {

@@ -97,10 +97,10 @@ impl Journal {
 
     // Erases a block whose header can't be read, and gives it a void header.
     fn clear_block<C: Chip>(&mut self, c: &mut C, room: &mut [u8], block: u32) -> Result<(), Gone>
-        requires ready { Ready (nand c.old) self.old room.old }
+        requires ready { Ready (C.nand c.old) self.old room.old }
         requires soon { 2 ≤ self.old.asks }
         requires within { block < self.old.shape.blocks }
-        ensures { Went 2 result self.old (nand c.new) self.new room.new }
+        ensures { Went 2 result self.old (C.nand c.new) self.new room.new }
     {
         if c.is_bad(block) {
             return Ok(());
@@ -117,8 +117,8 @@ impl Journal {
 
     // Does so with all of them.
     fn clear_unreadable<C: Chip>(&mut self, c: &mut C, room: &mut [u8]) -> Result<(), Gone>
-        requires ready { Ready (nand c.old) self.old room.old }
-        ensures { Rose result self.old (nand c.new) self.new room.new }
+        requires ready { Ready (C.nand c.old) self.old room.old }
+        ensures { Rose result self.old (C.nand c.new) self.new room.new }
     {
         for block in 0..self.shape.blocks {
             if block >= self.shape.blocks || self.asks < 2 {
@@ -152,8 +152,8 @@ impl Journal {
         content: Content,
         rest: u32,
     ) -> Result<bool, Gone>
-        requires ready { Ready (nand c.old) self.old room.old }
-        ensures { Rose result self.old (nand c.new) self.new room.new }
+        requires ready { Ready (C.nand c.old) self.old room.old }
+        ensures { Rose result self.old (C.nand c.new) self.new room.new }
     {
         let commit = if rest < 256 {
             PageIndex { index: rest as u16 }
@@ -179,9 +179,9 @@ impl Journal {
         head: Candidate,
         page: u32,
     ) -> Result<Option<Content>, Gone>
-        requires ready { Ready (nand c.old) self.old room.old }
+        requires ready { Ready (C.nand c.old) self.old room.old }
         requires soon { 1 ≤ self.old.asks }
-        ensures { Went 1 result self.old (nand c.new) self.new room.new }
+        ensures { Went 1 result self.old (C.nand c.new) self.new room.new }
     {
         if head.block >= self.shape.blocks || page >= self.shape.pages {
             return Ok(None);
@@ -201,9 +201,9 @@ impl Journal {
         page: u32,
         rest: u32,
     ) -> Result<bool, Gone>
-        requires ready { Ready (nand c.old) self.old room.old }
+        requires ready { Ready (C.nand c.old) self.old room.old }
         requires soon { 1 ≤ self.old.asks }
-        ensures { Rose result self.old (nand c.new) self.new room.new }
+        ensures { Rose result self.old (C.nand c.new) self.new room.new }
     {
         let Some(content) = self.show_content(c, room, head, page)? else {
             return Ok(false);
@@ -227,9 +227,9 @@ impl Journal {
         count: u32,
         origin: SealOrigin,
     ) -> Result<bool, Gone>
-        requires ready { Ready (nand c.old) self.old room.old }
+        requires ready { Ready (C.nand c.old) self.old room.old }
         requires few { count < 256 }
-        ensures { Rose result self.old (nand c.new) self.new room.new }
+        ensures { Rose result self.old (C.nand c.new) self.new room.new }
     {
         for done in 0..count {
             if self.asks < 1 {
@@ -248,7 +248,7 @@ impl Journal {
 impl Journal {
     // How many blocks are bad.
     fn count_bad<C: Chip>(&self, c: &C, room: &[u8]) -> u32
-        requires { Ready (nand c.now) self.now room.now }
+        requires { Ready (C.nand c.now) self.now room.now }
     {
         let _n = room.len();
         let mut bad: u32 = 0;
@@ -290,8 +290,8 @@ impl Journal {
         room: &mut [u8],
         head: Candidate,
     ) -> Result<Option<Belief>, Gone>
-        requires ready { Ready (nand c.old) self.old room.old }
-        ensures { Rose result self.old (nand c.new) self.new room.new }
+        requires ready { Ready (C.nand c.old) self.old room.old }
+        ensures { Rose result self.old (C.nand c.new) self.new room.new }
     {
         if self.asks < 1 {
             return Ok(None);
@@ -313,8 +313,8 @@ impl Journal {
         header: HeaderData,
         tail: u64,
     ) -> Result<bool, Gone>
-        requires ready { Ready (nand c.old) self.old room.old }
-        ensures { Rose result self.old (nand c.new) self.new room.new }
+        requires ready { Ready (C.nand c.old) self.old room.old }
+        ensures { Rose result self.old (C.nand c.new) self.new room.new }
     {
         if self.asks < 1 {
             return Ok(false);
@@ -338,8 +338,8 @@ impl Journal {
         head: Candidate,
         belief: Belief,
     ) -> Result<bool, Gone>
-        requires ready { Ready (nand c.old) self.old room.old }
-        ensures { Rose result self.old (nand c.new) self.new room.new }
+        requires ready { Ready (C.nand c.old) self.old room.old }
+        ensures { Rose result self.old (C.nand c.new) self.new room.new }
     {
         self.clear_unreadable(c, room)?;
         let copied = if belief.sealed {
@@ -390,8 +390,8 @@ impl Journal {
         room: &mut [u8],
         head: Candidate,
     ) -> Result<bool, Gone>
-        requires ready { Ready (nand c.old) self.old room.old }
-        ensures { Rose result self.old (nand c.new) self.new room.new }
+        requires ready { Ready (C.nand c.old) self.old room.old }
+        ensures { Rose result self.old (C.nand c.new) self.new room.new }
     {
         let Some(belief) = self.find_log(c, room, head)? else {
             return Ok(false);
@@ -405,8 +405,8 @@ impl Journal {
 
     // Comes up on a new chip: no sector has a place, and the log is a seal.
     fn rise_new<C: Chip>(&mut self, c: &mut C, room: &mut [u8]) -> Result<bool, Gone>
-        requires ready { Ready (nand c.old) self.old room.old }
-        ensures { Rose result self.old (nand c.new) self.new room.new }
+        requires ready { Ready (C.nand c.old) self.old room.old }
+        ensures { Rose result self.old (C.nand c.new) self.new room.new }
     {
         self.begin(room);
         let nothing = Belief {
@@ -431,8 +431,8 @@ impl Journal {
 
     // Comes up. False if nothing can be believed, or there is no block to write it down.
     pub fn rise<C: Chip>(&mut self, c: &mut C, room: &mut [u8]) -> Result<bool, Gone>
-        requires ready { Ready (nand c.old) self.old room.old }
-        ensures { Rose result self.old (nand c.new) self.new room.new }
+        requires ready { Ready (C.nand c.old) self.old room.old }
+        ensures { Rose result self.old (C.nand c.new) self.new room.new }
     {
         let bad = self.count_bad(c, room);
         self.note_bad(room, bad);

@@ -47,8 +47,8 @@ impl Journal {
 
     // Comes up, or notes that it can't.
     pub fn come_up<C: Chip>(&mut self, c: &mut C, room: &mut [u8]) -> Result<(), Gone>
-        requires ready { Ready (nand c.old) self.old room.old }
-        ensures { Rose result self.old (nand c.new) self.new room.new }
+        requires ready { Ready (C.nand c.old) self.old room.old }
+        ensures { Rose result self.old (C.nand c.new) self.new room.new }
     {
         if !self.rise(c, room)? {
             self.give_up(room);
@@ -72,9 +72,9 @@ impl Drive {
         room: &mut [u8],
         out: &mut [u8],
     ) -> Result<Served, Gone>
-        requires ready { Ready (nand c.old) self.old.journal room.old }
+        requires ready { Ready (C.nand c.old) self.old.journal room.old }
         requires lent { length out.old ≡ 32768 }
-        ensures rose { Rose result self.old.journal (nand c.new) self.new.journal room.new }
+        ensures rose { Rose result self.old.journal (C.nand c.new) self.new.journal room.new }
         ensures serves { Serves self.old.queue result self.new.queue }
     {
         if self.journal.asks < 8 {

@@ -96,9 +96,9 @@ impl Journal {
 
     // Looks at the oldest record, if that is owed; whether it was.
     fn look_first<C: Chip>(&mut self, c: &mut C, room: &mut [u8]) -> Result<bool, Gone>
-        requires ready { Ready (nand c.old) self.old room.old }
+        requires ready { Ready (C.nand c.old) self.old room.old }
         requires soon { 4 ≤ self.old.asks }
-        ensures { Went 4 result self.old (nand c.new) self.new room.new }
+        ensures { Went 4 result self.old (C.nand c.new) self.new room.new }
     {
         if !self.owes_look() {
             return Ok(false);
@@ -117,9 +117,9 @@ impl Journal {
         content: Content,
         source: Source,
     ) -> Result<bool, Gone>
-        requires ready { Ready (nand c.old) self.old room.old }
+        requires ready { Ready (C.nand c.old) self.old room.old }
         requires soon { 8 ≤ self.old.asks }
-        ensures { Went 8 result self.old (nand c.new) self.new room.new }
+        ensures { Went 8 result self.old (C.nand c.new) self.new room.new }
     {
         if self.look_first(c, room)? {
             return Ok(false);
@@ -140,9 +140,9 @@ impl Journal {
         sector: u64,
         source: Source,
     ) -> Result<bool, Gone>
-        requires ready { Ready (nand c.old) self.old room.old }
+        requires ready { Ready (C.nand c.old) self.old room.old }
         requires soon { 8 ≤ self.old.asks }
-        ensures { Went 8 result self.old (nand c.new) self.new room.new }
+        ensures { Went 8 result self.old (C.nand c.new) self.new room.new }
     {
         if sector >= 10_485_760 {
             return Ok(false);
@@ -161,9 +161,9 @@ impl Journal {
 
     // One step towards a seal; whether it is there.
     pub fn write_seal<C: Chip>(&mut self, c: &mut C, room: &mut [u8]) -> Result<bool, Gone>
-        requires ready { Ready (nand c.old) self.old room.old }
+        requires ready { Ready (C.nand c.old) self.old room.old }
         requires soon { 8 ≤ self.old.asks }
-        ensures { Went 8 result self.old (nand c.new) self.new room.new }
+        ensures { Went 8 result self.old (C.nand c.new) self.new room.new }
     {
         let done = self.append_fresh(
             c,
@@ -207,9 +207,9 @@ impl Journal {
         from: u64,
         many: u32,
     ) -> Result<bool, Gone>
-        requires ready { Ready (nand c.old) self.old room.old }
+        requires ready { Ready (C.nand c.old) self.old room.old }
         requires lent { length out.old ≡ 32768 }
-        ensures { Rose result self.old (nand c.new) self.new room.new }
+        ensures { Rose result self.old (C.nand c.new) self.new room.new }
     {
         for i in 0..many {
             let sector = from.saturating_add(u64::from(i));
@@ -232,10 +232,10 @@ impl Journal {
         tag: u8,
         pending: Pending,
     ) -> Result<Progress, Gone>
-        requires ready { Ready (nand c.old) self.old room.old }
+        requires ready { Ready (C.nand c.old) self.old room.old }
         requires soon { 8 ≤ self.old.asks }
         requires lent { length out.old ≡ 32768 }
-        ensures { Rose result self.old (nand c.new) self.new room.new }
+        ensures { Rose result self.old (C.nand c.new) self.new room.new }
     {
         let done = pending.taken;
         match pending.ask {

@@ -79,10 +79,10 @@ impl Journal {
         header: HeaderMark,
         survey: Survey,
     ) -> Result<Survey, Gone>
-        requires ready { Ready (nand c.old) self.old room.old }
+        requires ready { Ready (C.nand c.old) self.old room.old }
         requires soon { 1 ≤ self.old.asks }
         requires within { block < self.old.shape.blocks }
-        ensures { Went 1 result self.old (nand c.new) self.new room.new }
+        ensures { Went 1 result self.old (C.nand c.new) self.new room.new }
     {
         let number = header.number.number;
         self.note_seen(room, block, number, Standing::Free);
@@ -120,10 +120,10 @@ impl Journal {
         block: u32,
         survey: Survey,
     ) -> Result<Survey, Gone>
-        requires ready { Ready (nand c.old) self.old room.old }
+        requires ready { Ready (C.nand c.old) self.old room.old }
         requires soon { 2 ≤ self.old.asks }
         requires within { block < self.old.shape.blocks }
-        ensures { Went 2 result self.old (nand c.new) self.new room.new }
+        ensures { Went 2 result self.old (C.nand c.new) self.new room.new }
     {
         if self.shape.pages == 0 {
             return Ok(survey);
@@ -155,8 +155,8 @@ impl Journal {
 
     // Looks at all blocks.
     pub fn survey<C: Chip>(&mut self, c: &mut C, room: &mut [u8]) -> Result<Survey, Gone>
-        requires ready { Ready (nand c.old) self.old room.old }
-        ensures { Rose result self.old (nand c.new) self.new room.new }
+        requires ready { Ready (C.nand c.old) self.old room.old }
+        ensures { Rose result self.old (C.nand c.new) self.new room.new }
     {
         let mut survey = Survey {
             best: None,

@@ -132,9 +132,9 @@ impl Journal {
         room: &mut [u8],
         block: u32,
     ) -> Result<Option<HeaderData>, Gone>
-        requires ready { Ready (nand c.old) self.old room.old }
+        requires ready { Ready (C.nand c.old) self.old room.old }
         requires soon { 1 ≤ self.old.asks }
-        ensures { Went 1 result self.old (nand c.new) self.new room.new }
+        ensures { Went 1 result self.old (C.nand c.new) self.new room.new }
     {
         if block >= self.shape.blocks || self.shape.pages == 0 {
             return Ok(None);
@@ -153,9 +153,9 @@ impl Journal {
         named: Predecessor,
         stretch: Stretch,
     ) -> Result<Option<HeaderData>, Gone>
-        requires ready { Ready (nand c.old) self.old room.old }
+        requires ready { Ready (C.nand c.old) self.old room.old }
         requires soon { 1 ≤ self.old.asks }
-        ensures { Went 1 result self.old (nand c.new) self.new room.new }
+        ensures { Went 1 result self.old (C.nand c.new) self.new room.new }
     {
         if stretch.block >= self.shape.blocks || stretch.records > 255 {
             return Ok(None);
@@ -176,8 +176,8 @@ impl Journal {
         block: u32,
         header: HeaderData,
     ) -> Result<bool, Gone>
-        requires ready { Ready (nand c.old) self.old room.old }
-        ensures { Rose result self.old (nand c.new) self.new room.new }
+        requires ready { Ready (C.nand c.old) self.old room.old }
+        ensures { Rose result self.old (C.nand c.new) self.new room.new }
     {
         let keep = header.keep.index;
         let mut above = block;

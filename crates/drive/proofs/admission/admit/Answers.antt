@@ -7,6 +7,6 @@ pub returns : goal.returns
 returns c =
     record {
       told = λ h bs k.
-          admitted c.args.under-way.now c.args.sectors c.args.tag (answered c.judge.result) c.span-of.result h (cmd_of c.args.a bs) c.judge.ensures.told (c.span-of.ensures c.args.sectors bs) k;
+          admitted c.args.under_way.now c.args.sectors c.args.tag (answered c.judge.result) c.span_of.result h (cmd_of c.args.a bs) c.judge.ensures.told (c.span_of.ensures c.args.sectors bs) k;
       tagged = c.judge.ensures.tagged;
     }

@@ -1,5 +1,4 @@
-use Rattle.std.proofs.Common.{rules}
-use Rattle.drive.proofs.Sheet.{erase_fine, erase_failed, erase_dark}
+use Rattle.drive.proofs.Sheet.{erase_failed, erase_dark}
 use Rattle.drive.proofs.Heads.{opened}
 use Rattle.drive.proofs.chip_ops.erase_block.Goals as goal
 

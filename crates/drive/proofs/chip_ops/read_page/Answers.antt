@@ -4,5 +4,5 @@ use Rattle.drive.proofs.chip_ops.read_page.Goals as goal
 pub returns-in-Fine : goal.returns-in-Fine
 returns-in-Fine g c = read_fine c.in-Fine.ensures
 
-pub returns-in-default : goal.returns-in-default
-returns-in-default g c = read_dark c.read.ensures c.in-default.not-Fine
+pub returns-in_default : goal.returns-in_default
+returns-in_default g c = read_dark c.read.ensures c.in_default.not-Fine

@@ -6,4 +6,4 @@ pub adopt-requires : goal.adopt-requires
 adopt-requires c = let s = sound_ready _ _ c.requires.stands in search rules
 
 pub returns : goal.returns
-returns c = stays _ _ _ _ (noted_twice _ _ _ _ _ c.adopt.ensures c.note-record.ensures)
+returns c = stays _ _ _ _ (noted_twice _ _ _ _ _ c.adopt.ensures c.note_record.ensures)
