@@ -1,5 +1,5 @@
 -- A chip of which one block changed. Assumes nothing.
-use Rattle.std.proofs.Common.{◌≡◌, ℕ, suc, ◌+◌, ◌-◌, ◌*◌, ◌<◌, ◌≤◌, Bool, true, false, cond, ◌||◌, eqb, ltb, ◌⊎◌, List, length, sym, refl, ap, ◌∙◌, subst, ap₂, inl, inr, arith}
+use Rattle.std.proofs.Common.{◌≡◌, ℕ, ◌+◌, ◌-◌, ◌*◌, ◌<◌, ◌≤◌, Bool, cond, eqb, ltb, ◌⊎◌, List, length, sym, ap, ◌∙◌, ap₂, inl, inr, arith}
 use mathlib.Core.Path.{fun_ext}
 use Rattle.std.proofs.lemmas.Bool.{cases_Bool, cases_eq, cases_lt, cond-true, cond-false, lt-ltb, ltb-true, eq-eqb, ne_eqb}
 use Rattle.drive.specs.Nand.{Nand, Block, Page, Blank}
@@ -13,7 +13,7 @@ abbrev pub after : ℕ → (Block → Block) → Bool → Nand → Nand
 after k f on n = record { blocks = n.blocks; pages = n.pages; block = λ j. cond (eqb j k) (f (n.block k)) (n.block j); on = on; left = n.left - 1 }
 
 -- memory before and after: it is as long as it was, and other blocks are as they were
-pub record Frame (bytes bytes' : List ℕ) (states states' : List ℕ) (cells cells' : List BlockCell) (pages k : ℕ) : Type 0 where
+pub record Frame (bytes bytes' : List ℕ) (states states' : List PageState) (cells cells' : List BlockCell) (pages k : ℕ) : Type 0 where
   pub bytes_long : length bytes' ≡ length bytes
   pub states_long : length states' ≡ length states
   pub cells_long : length cells' ≡ length cells
@@ -28,7 +28,7 @@ other_row j k w q h ne =
       | inr ge ↦ inr (omega (arith, row_end k j w (omega arith)))
     ]
 
-module _ (bytes bytes' : List ℕ) (states states' : List ℕ) (cells cells' : List BlockCell) (blocks pages k left : ℕ) (on on' : Bool) (f : Block → Block)
+module _ (bytes bytes' : List ℕ) (states states' : List PageState) (cells cells' : List BlockCell) (blocks pages k left : ℕ) (on on' : Bool) (f : Block → Block)
     (frame : Frame bytes bytes' states states' cells cells' pages k) (low : k < blocks)
     (here : block_from bytes' states' pages (k * pages) (cell_at cells' k) ≡ f (block_from bytes states pages (k * pages) (cell_at cells k))) where
   abbrev was : ℕ → Block

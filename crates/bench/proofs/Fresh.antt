@@ -1,8 +1,8 @@
 -- A chip as it comes from the maker. Assumes nothing.
-use Rattle.std.proofs.Common.{◌≡◌, ℕ, zero, suc, ◌+◌, ◌-◌, ◌*◌, ◌<◌, ◌≤◌, Bool, true, false, cond, ◌||◌, T, eqb, ltb, ◌⊎◌, List, [], ◌∷◌, ◌++◌, length, get_or, take, sym, refl, ap, ◌∙◌, subst, ap₂, inl, inr, arith}
+use Rattle.std.proofs.Common.{◌≡◌, ℕ, zero, suc, ◌+◌, ◌*◌, ◌<◌, ◌≤◌, Bool, true, false, cond, ◌||◌, eqb, ltb, List, [], ◌∷◌, ◌++◌, length, get_or, take, sym, refl, ap, ◌∙◌, inl, inr, arith}
 use Rattle.std.proofs.lemmas.List.{take_more}
 use Rattle.std.proofs.lemmas.Bool.{cases_Bool, cases_eq, cond-true, cond-false, lt-ltb, ltb-true, eq-eqb, ne_eqb}
-use Rattle.drive.specs.Nand.{Nand, Block, Page, Blank, New, bads}
+use Rattle.drive.specs.Nand.{Nand, Block, Blank, bads}
 use Rattle.bench.specs.declared.memory.PageState.{PageState}
 use Rattle.bench.specs.declared.memory.PageState.TheVariants as state
 use Rattle.bench.specs.declared.memory.BlockCell.{BlockCell}
@@ -57,7 +57,7 @@ bads-same (suc n) f g h =
     let one : Bool → ℕ = λ t. cond t 1 0 in
     omega (arith, ap one (h n (omega arith)), bads-same n f g (λ k l. h k (omega arith)))
 
-module _ (bytes : List ℕ) (states : List ℕ) (cells : List BlockCell) (blocks pages left : ℕ) (on : Bool) (bad : List ℕ)
+module _ (bytes : List ℕ) (states : List PageState) (cells : List BlockCell) (blocks pages left : ℕ) (on : Bool) (bad : List ℕ)
     (blank : (i : ℕ) → i < blocks * pages → state_at states i ≡ state.Blank) (cells_are : (k : ℕ) → k < blocks → cell_at cells k ≡ marked (listed bad k)) where
   abbrev chip : Nand
   chip = nand_of bytes states cells blocks pages on left

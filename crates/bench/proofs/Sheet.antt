@@ -1,5 +1,5 @@
 -- What the memory becomes is one of the outcomes of the data sheet. Assumes nothing.
-use Rattle.std.proofs.Common.{◌≡◌, ℕ, suc, ◌+◌, ◌-◌, ◌*◌, ◌<◌, ◌≤◌, Bool, true, false, cond, not, ◌||◌, T, eqb, ltb, ◌⊎◌, List, length, sym, refl, ap, ◌∙◌, subst, ap₂, inl, inr, arith}
+use Rattle.std.proofs.Common.{◌≡◌, ℕ, ◌+◌, ◌-◌, ◌*◌, ◌<◌, ◌≤◌, Bool, true, false, cond, not, ◌||◌, T, eqb, ltb, ◌⊎◌, List, length, sym, refl, ap, ◌∙◌, subst, ap₂, inl, inr, arith}
 use mathlib.Core.Path.{fun_ext}
 use Rattle.std.proofs.lemmas.Bool.{cases_Bool, cases_eq, cond-true, cond-false, lt-ltb, ltb-true, eq-eqb, ne_eqb, eqb-false, or_parts, or_from}
 use Rattle.drive.specs.Nand.{Nand, Block, Page, Blank, Written, Torn, MayErase, MayProgram, MayFail, Erasing, Programming, Reading, Shows, erased, half_erased, broken, frayed, put_page, counted, dark, blank_page}
@@ -9,7 +9,7 @@ use Rattle.drive.specs.declared.Answer.TheVariants.{Fine, Failed, Dark}
 use Rattle.bench.specs.declared.memory.PageState.{PageState}
 use Rattle.bench.specs.declared.memory.PageState.TheVariants as state
 use Rattle.bench.specs.declared.memory.BlockCell.{BlockCell}
-use Rattle.bench.specs.Held.{spaced, slot, state_at, cell_at, frayed_state, erased_cell, half_erased_cell, programmed_cell, broken_cell, worn_state, worn_cell, filled_state, filled_cell, still_on, shaped, page_at, block_with, block_from, no_block, nand_of, limit}
+use Rattle.bench.specs.Held.{slot, state_at, cell_at, frayed_state, erased_cell, half_erased_cell, programmed_cell, broken_cell, worn_state, worn_cell, filled_state, filled_cell, still_on, shaped, page_at, block_from, nand_of, limit}
 use Rattle.bench.specs.Tricks.{Showing}
 use Rattle.bench.proofs.Space.{inside}
 use Rattle.bench.proofs.Frames.{Frame, after, changed}
@@ -39,29 +39,29 @@ not_blank s (inl e) b = let z : ◌≡◌ {A = ℕ} 0 1 = cc in omega arith
 not_blank s (inr e) b = let z : ◌≡◌ {A = ℕ} 0 1 = cc in omega arith
 
 -- a block, and a page of it, by its place
-pub block_is : (bytes : List ℕ) (states : List ℕ) (cells : List BlockCell) (blocks pages k left : ℕ) (on : Bool) → k < (nand_of bytes states cells blocks pages on left).blocks
+pub block_is : (bytes : List ℕ) (states : List PageState) (cells : List BlockCell) (blocks pages k left : ℕ) (on : Bool) → k < (nand_of bytes states cells blocks pages on left).blocks
     → (nand_of bytes states cells blocks pages on left).block k ≡ block_from bytes states pages (k * pages) (cell_at cells k)
 block_is bytes states cells blocks pages k left on h = cond-true (ltb k blocks) _ _ (lt-ltb k blocks (inside _ _ _ _ _ _ h).low)
 
-pub page_is : (bytes : List ℕ) (states : List ℕ) (cells : List BlockCell) (blocks pages k p left : ℕ) (on : Bool) → k < (nand_of bytes states cells blocks pages on left).blocks → p < pages
+pub page_is : (bytes : List ℕ) (states : List PageState) (cells : List BlockCell) (blocks pages k p left : ℕ) (on : Bool) → k < (nand_of bytes states cells blocks pages on left).blocks → p < pages
     → ((nand_of bytes states cells blocks pages on left).block k).page p ≡ page_at bytes states (k * pages + p)
 page_is bytes states cells blocks pages k p left on h l =
     ap (λ (b : Block). b.page p) (block_is bytes states cells blocks pages k left on h) ∙ cond-true (ltb p pages) _ _ (lt-ltb p pages l)
 
 -- ---- erasing
 
-sound_cell : (bytes : List ℕ) (states : List ℕ) (cells : List BlockCell) (blocks pages k left : ℕ) (on : Bool) → MayErase (nand_of bytes states cells blocks pages on left) k
+sound_cell : (bytes : List ℕ) (states : List PageState) (cells : List BlockCell) (blocks pages k left : ℕ) (on : Bool) → MayErase (nand_of bytes states cells blocks pages on left) k
     → ((cell_at cells k).bad || eqb (cell_at cells k).erases limit) ≡ false
 sound_cell bytes states cells blocks pages k left on asked = ap (λ (b : Block). b.bad) (sym (block_is bytes states cells blocks pages k left on asked.1)) ∙ not_T _ asked.2
 
 -- the counter of a block that isn't bad goes on
-pub unspent : (bytes : List ℕ) (states : List ℕ) (cells : List BlockCell) (blocks pages k left : ℕ) (on : Bool) → MayErase (nand_of bytes states cells blocks pages on left) k
+pub unspent : (bytes : List ℕ) (states : List PageState) (cells : List BlockCell) (blocks pages k left : ℕ) (on : Bool) → MayErase (nand_of bytes states cells blocks pages on left) k
     → (cell_at cells k).erases ≡ limit → ⊥
 unspent bytes states cells blocks pages k left on asked =
     let c = cell_at cells k in
     eqb-false c.erases limit (or_parts c.bad (eqb c.erases limit) (sound_cell bytes states cells blocks pages k left on asked)).1
 
-module _ (bytes : List ℕ) (states states' : List ℕ) (cells cells' : List BlockCell) (blocks pages k left : ℕ) (on : Bool)
+module _ (bytes : List ℕ) (states states' : List PageState) (cells cells' : List BlockCell) (blocks pages k left : ℕ) (on : Bool)
     (asked : MayErase (nand_of bytes states cells blocks pages on left) k) (lit : T on)
     (states_long : length states' ≡ length states) (cells_long : length cells' ≡ length cells)
     (states-kept : (i : ℕ) → (i < k * pages) ⊎ (k * pages + pages ≤ i) → state_at states' i ≡ state_at states i)
@@ -136,7 +136,7 @@ module _ (bytes : List ℕ) (states states' : List ℕ) (cells cells' : List Blo
 
 -- ---- programming
 
-module _ (bytes bytes' : List ℕ) (states states' : List ℕ) (cells cells' : List BlockCell) (blocks pages k p left : ℕ) (on : Bool) (b : List ℕ) (st : PageState)
+module _ (bytes bytes' : List ℕ) (states states' : List PageState) (cells cells' : List BlockCell) (blocks pages k p left : ℕ) (on : Bool) (b : List ℕ) (st : PageState)
     (asked : MayProgram (nand_of bytes states cells blocks pages on left) k p b) (lit : T on)
     (bytes_long : length bytes' ≡ length bytes) (states_long : length states' ≡ length states) (cells_long : length cells' ≡ length cells)
     (bytes-kept : (i : ℕ) → (i ≡ k * pages + p → ⊥) → slot bytes' i ≡ slot bytes i)
@@ -229,7 +229,7 @@ read_shows {n} {m} {k} {p} {r} lit s e = subst (λ (x : Nand). Reading n k p r F
 
 -- ---- by the answer
 
-pub erase_by : (a : Answer) (bytes : List ℕ) (states states' : List ℕ) (cells cells' : List BlockCell) (blocks pages k left : ℕ) (on : Bool)
+pub erase_by : (a : Answer) (bytes : List ℕ) (states states' : List PageState) (cells cells' : List BlockCell) (blocks pages k left : ℕ) (on : Bool)
     → MayErase (nand_of bytes states cells blocks pages on left) k → T on → (a ≡ Failed → MayFail (nand_of bytes states cells blocks pages on left) k)
     → ((a ≡ Failed → ⊥) → ((nand_of bytes states cells blocks pages on left).block k).erases + 1 < limit)
     → length states' ≡ length states → length cells' ≡ length cells
@@ -241,7 +241,7 @@ erase_by Fine bytes s s' c c' n w k left true asked lit may early sl cl sk ck sh
 erase_by Failed bytes s s' c c' n w k left true asked lit may early sl cl sk ck sh ch = erase-fails bytes s s' c c' n w k left true asked lit sl cl sk ck sh ch (may refl)
 erase_by Dark bytes s s' c c' n w k left true asked lit may early sl cl sk ck sh ch = erase-goes bytes s s' c c' n w k left true asked lit sl cl sk ck sh ch (early (dark_not_failed Dark refl))
 
-pub program_by : (a : Answer) (bytes bytes' : List ℕ) (states states' : List ℕ) (cells cells' : List BlockCell) (blocks pages k p left : ℕ) (on : Bool) (b : List ℕ)
+pub program_by : (a : Answer) (bytes bytes' : List ℕ) (states states' : List PageState) (cells cells' : List BlockCell) (blocks pages k p left : ℕ) (on : Bool) (b : List ℕ)
     → MayProgram (nand_of bytes states cells blocks pages on left) k p b → T on → (a ≡ Failed → MayFail (nand_of bytes states cells blocks pages on left) k)
     → length bytes' ≡ length bytes → length states' ≡ length states → length cells' ≡ length cells
     → ((i : ℕ) → (i ≡ k * pages + p → ⊥) → slot bytes' i ≡ slot bytes i) → ((i : ℕ) → (i ≡ k * pages + p → ⊥) → state_at states' i ≡ state_at states i)

@@ -1,5 +1,5 @@
 -- Counts over the blocks, one block further. Assumes nothing.
-use Rattle.std.proofs.Common.{◌≡◌, ℕ, zero, suc, ◌+◌, ◌*◌, ◌<◌, ◌≤◌, min, max, Bool, true, false, cond, sym, refl, ap, ◌∙◌, ap₂, add-one, arith}
+use Rattle.std.proofs.Common.{◌≡◌, ℕ, ◌+◌, min, max, Bool, true, false, cond, sym, refl, ap, ◌∙◌, ap₂, add-one, arith}
 use Rattle.drive.specs.Nand.{Block, bads}
 use Rattle.bench.specs.Held.{limit}
 use Rattle.bench.specs.Store.{least, most}

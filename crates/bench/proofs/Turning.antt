@@ -1,9 +1,8 @@
 -- Bits that are turned over or raised. Assumes nothing.
-use Rattle.std.proofs.Common.{◌≡◌, ℕ, zero, suc, ◌+◌, ◌-◌, ◌*◌, ◌/◌, ◌%◌, ◌^◌, ◌<◌, ◌≤◌, max, Bool, true, false, cond, ◌&&◌, T, eqb, ltb, leb, ◌⊎◌, List, [], ◌∷◌, length, get_or, take, drop, set, sym, refl, ap, ◌∙◌, subst, ap₂, inl, inr, pow-suc, add-one, arith, le→leb, lt→ltb}
+use Rattle.std.proofs.Common.{◌≡◌, ℕ, zero, suc, ◌+◌, ◌*◌, ◌/◌, ◌%◌, ◌^◌, ◌<◌, ◌≤◌, Bool, true, false, cond, ◌&&◌, T, eqb, ltb, leb, List, [], ◌∷◌, length, get_or, take, drop, set, sym, refl, ap, ◌∙◌, subst, ap₂, inl, inr, pow-suc, arith, le→leb, lt→ltb}
 use lib.Bits.{bit_or, bit_xor, or_step, xor_mod, xor_shr, xor_zero_r}
 use lib.Seq.{take-set-lt}
-use Rattle.std.proofs.lemmas.Nat.{one_shl}
-use Rattle.std.proofs.lemmas.List.{get_or-drop, get_or-take, drop-drop, drop-set-lt, drop-set-add, take-set-le, get_or-set_same, get_or-set_other, length-take, length-drop, length-set}
+use Rattle.std.proofs.lemmas.List.{get_or-drop, get_or-take, drop-drop, drop-set-lt, drop-set-add, take-set-le, get_or-set_same, get_or-set_other}
 use Rattle.std.proofs.lemmas.Bool.{cases_eq, cases_lt, eq-eqb}
 use Rattle.drive.specs.Bits.{every, all_bytes, apart_bits, apart, nearly, under_bits, under}
 use Rattle.bench.specs.Pieces.{piece_at}

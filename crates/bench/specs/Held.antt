@@ -1,5 +1,5 @@
 -- What lent memory holds, as the data sheet has it.
-use Rattle.std.specs.Prelude.{◌≡◌, ℕ, ◌+◌, ◌*◌, Bool, true, false, cond, ◌&&◌, ◌||◌, List, length, take, drop, ◌==◌, nat_le, nat_lt, slice_index, slice_index_or}
+use Rattle.std.specs.Prelude.{ℕ, ◌+◌, ◌*◌, Bool, true, false, cond, ◌&&◌, ◌||◌, List, length, take, drop, ◌==◌, nat_le, nat_lt, slice_index_or}
 use Rattle.drive.specs.Nand.{Nand, Block, Page, Blank, Written, Torn}
 use Rattle.drive.specs.declared.Answer.{Answer}
 use Rattle.drive.specs.declared.Answer.TheVariants.{Fine, Failed, Dark}
@@ -15,13 +15,9 @@ limit = 4294967295
 abbrev pub slot : List ℕ → ℕ → List ℕ
 slot bytes i = take 4352 (drop (4352 * i) bytes)
 
--- the state that a byte stands for
-unfoldable pub state_of : ℕ → PageState
-state_of b = cond (b == 0) state.Blank (cond (b == 1) state.Written state.Torn)
-
 -- the state of the page at place i
-abbrev pub state_at : List ℕ → ℕ → PageState
-state_at states i = state_of (slice_index states i)
+abbrev pub state_at : List PageState → ℕ → PageState
+state_at states i = slice_index_or states i state.Blank
 
 -- the record of a block that nobody has touched
 abbrev pub untouched : BlockCell
@@ -90,7 +86,7 @@ shaped state.Written bs = Written bs
 shaped state.Torn bs = Torn bs
 
 -- the page at place i
-abbrev pub page_at : List ℕ → List ℕ → ℕ → Page
+abbrev pub page_at : List ℕ → List PageState → ℕ → Page
 page_at bytes states i = shaped (state_at states i) (slot bytes i)
 
 -- the block of these pages and this record
@@ -98,7 +94,7 @@ abbrev pub block_with : (ℕ → Page) → BlockCell → Block
 block_with page c = record { page = page; next = c.next; clean = c.clean; erases = c.erases; bad = c.bad || (c.erases == limit) }
 
 -- the block of this record whose pages stand from place i on
-abbrev pub block_from : List ℕ → List ℕ → (pages i : ℕ) → BlockCell → Block
+abbrev pub block_from : List ℕ → List PageState → (pages i : ℕ) → BlockCell → Block
 block_from bytes states pages i c = block_with (λ p. cond (nat_lt p pages) (page_at bytes states (i + p)) Blank) c
 
 -- a block past the last one
@@ -110,7 +106,7 @@ unfoldable pub spaced : (bytes states cells blocks pages : ℕ) → Bool
 spaced bytes states cells blocks pages = nat_le blocks 65536 && (nat_le pages 256 && (nat_le blocks cells && (nat_le (blocks * pages) states && nat_le (4352 * (blocks * pages)) bytes)))
 
 -- the chip; one whose memory has no space for it has no blocks
-abbrev pub nand_of : List ℕ → List ℕ → List BlockCell → (blocks pages : ℕ) → (on : Bool) → (left : ℕ) → Nand
+abbrev pub nand_of : List ℕ → List PageState → List BlockCell → (blocks pages : ℕ) → (on : Bool) → (left : ℕ) → Nand
 nand_of bytes states cells blocks pages on left = record {
   blocks = cond (spaced (length bytes) (length states) (length cells) blocks pages) blocks 0;
   pages = pages;

@@ -17,7 +17,7 @@ pub record OnSheet (blocks pages : ℕ) : Type 0 where
   pub eights : pages % 8 ≡ 0
 
 -- a store over memory that is as it was lent
-pub record Resumed (s : Store) (bytes : List ℕ) (states : List ℕ) (cells : List BlockCell) (blocks pages : ℕ) : Type 0 where
+pub record Resumed (s : Store) (bytes : List ℕ) (states : List PageState) (cells : List BlockCell) (blocks pages : ℕ) : Type 0 where
   pub bytes_are : s.bytes.now ≡ bytes
   pub states_are : s.states.now ≡ states
   pub cells_are : s.cells.now ≡ cells
@@ -29,7 +29,7 @@ pub record Resumed (s : Store) (bytes : List ℕ) (states : List ℕ) (cells : L
   pub space : spaced (length bytes) (length states) (length cells) blocks pages ≡ true
 
 -- why a geometry and memory make no chip
-abbrev pub Unfit : Refusal → List ℕ → List ℕ → List BlockCell → (blocks pages : ℕ) → Type 0
+abbrev pub Unfit : Refusal → List ℕ → List PageState → List BlockCell → (blocks pages : ℕ) → Type 0
 Unfit Blocks bytes states cells blocks pages = (blocks < 32) ⊎ (65536 < blocks)
 Unfit Pages bytes states cells blocks pages = (pages < 16) ⊎ ((256 < pages) ⊎ (pages % 8 ≢ 0))
 Unfit Space bytes states cells blocks pages = spaced (length bytes) (length states) (length cells) blocks pages ≡ false

@@ -13,5 +13,5 @@ mod tricks;
 pub use chip::MemoryChip;
 pub use events::Counts;
 pub use make::{ChipMemory, Geometry, Refusal, made, resume};
-pub use memory::BlockCell;
+pub use memory::{BlockCell, PageState};
 pub use tricks::Mode;

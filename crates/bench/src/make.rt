@@ -5,7 +5,7 @@ ghost use Rattle.bench.specs.Store.{held};
 ghost use Rattle.bench.specs.Made.{OnSheet, Resumed, Unfit, Misfit, Fresh, listed, marked};
 
 use super::chip::MemoryChip;
-use super::memory::{BlockCell, has_space, put_cell, wear};
+use super::memory::{BlockCell, PageState, has_space, put_cell, wear};
 use super::store::Store;
 use super::tricks::{Mode, Tricks};
 use drive::Answer;
@@ -14,7 +14,7 @@ use drive::Answer;
 #[derive(Drop)]
 pub struct ChipMemory<'a> {
     pub bytes: &'a mut [u8],
-    pub states: &'a mut [u8],
+    pub states: &'a mut [PageState],
     pub cells: &'a mut [BlockCell],
 }
 

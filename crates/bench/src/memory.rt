@@ -1,7 +1,7 @@
 // What a chip holds: the bytes and the state of each page, and the record of each block.
 ghost use Rattle.std.specs.Prelude.{◌≡◌, ℕ, ◌+◌, ◌*◌, ◌<◌, ◌≤◌, ◌⊎◌, length, ◌≢◌};
 ghost use Rattle.drive.specs.Nand.{blank_page};
-ghost use Rattle.bench.specs.Held.{spaced, slot, state_of, state_at, cell_at, limit, untouched, erased_cell, half_erased_cell, programmed_cell, broken_cell, worn_state, worn_cell, filled_state, filled_cell, still_on};
+ghost use Rattle.bench.specs.Held.{spaced, slot, state_at, cell_at, limit, untouched, erased_cell, half_erased_cell, programmed_cell, broken_cell, worn_state, worn_cell, filled_state, filled_cell, still_on};
 
 use drive::Answer;
 
@@ -11,30 +11,6 @@ pub enum PageState {
     Blank,
     Written,
     Torn,
-}
-
-impl PageState {
-    // The byte that stands for it in memory.
-    fn code(self) -> u8
-        ensures { state_of result ≡ self }
-    {
-        match self {
-            PageState::Blank => 0,
-            PageState::Written => 1,
-            PageState::Torn => 2,
-        }
-    }
-}
-
-// The state that a byte stands for.
-fn decode(code: u8) -> PageState
-    ensures { result ≡ state_of code }
-{
-    match code {
-        0 => PageState::Blank,
-        1 => PageState::Written,
-        _ => PageState::Torn,
-    }
 }
 
 // The record of a block.
@@ -175,20 +151,20 @@ pub fn blank(page: &mut [u8])
 }
 
 // The state of the page at a place.
-pub fn get_state(states: &[u8], place: usize) -> PageState
+pub fn get_state(states: &[PageState], place: usize) -> PageState
     requires { place < length states.now }
     ensures { result ≡ state_at states.now place }
 {
-    decode(states[place])
+    states[place]
 }
 
 // The state of the page at a place is another.
-pub fn put_state(states: &mut [u8], place: usize, state: PageState)
+pub fn put_state(states: &mut [PageState], place: usize, state: PageState)
     requires { place < length states.old }
     ensures here { state_at states.new place ≡ state }
     ensures others { (i : ℕ) → (i ≢ place) → state_at states.new i ≡ state_at states.old i }
 {
-    states[place] = state.code();
+    states[place] = state;
 }
 
 // The state of a page of a block whose erasing was answered so.
@@ -203,7 +179,7 @@ fn worn(state: PageState, answer: Answer) -> PageState
 }
 
 // The pages of a block whose erasing was answered so.
-pub fn wear(states: &mut [u8], first: usize, many: usize, answer: Answer)
+pub fn wear(states: &mut [PageState], first: usize, many: usize, answer: Answer)
     requires { first + many ≤ length states.old }
     ensures here { (i : ℕ) → first ≤ i → i < first + many → state_at states.new i ≡ worn_state answer (state_at states.old i) }
     ensures others { (i : ℕ) → (i < first) ⊎ (first + many ≤ i) → state_at states.new i ≡ state_at states.old i }

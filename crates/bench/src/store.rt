@@ -16,7 +16,7 @@ use drive::Answer;
 #[derive(Drop)]
 pub struct Store<'a> {
     pub bytes: &'a mut [u8],
-    pub states: &'a mut [u8],
+    pub states: &'a mut [PageState],
     pub cells: &'a mut [BlockCell],
     pub blocks: u32,
     pub pages: u32,

@@ -18,11 +18,11 @@ returns c =
     let s = c.args.store.now in
     let space = ap₂ (λ (n m : ℕ). spaced (length s.bytes.now) n m s.blocks s.pages) c.wear.auto.states (c.mark.auto.cells ∙ c.reset.auto.cells) ∙ c.requires.space in
     fresh s.bytes.now c.wear.new.states c.mark.new.cells s.blocks s.pages s.left s.on c.args.bad.now (λ i h. c.wear.ensures.here i (omega arith) (omega arith))
-    c.in-ok-mark.ensures c.requires.sheet space c.requires.on (omega (arith, c.bad-blocks.ensures.count))
+    c.in_ok-mark.ensures c.requires.sheet space c.requires.on (omega (arith, c.bad_blocks.ensures.count))
 
-pub returns-then-bad-blocks-blocks : goal.returns-then-bad-blocks-blocks
-returns-then-bad-blocks-blocks c =
+pub returns-then-bad_blocks-blocks : goal.returns-then-bad_blocks-blocks
+returns-then-bad_blocks-blocks c =
     let s = c.args.store.now in
     let space = ap₂ (λ (n m : ℕ). spaced (length s.bytes.now) n m s.blocks s.pages) c.wear.auto.states (c.mark.auto.cells ∙ c.reset.auto.cells) ∙ c.requires.space in
     too_many s.bytes.now c.wear.new.states c.mark.new.cells s.blocks s.pages s.left s.on c.args.bad.now (λ i h. c.wear.ensures.here i (omega arith) (omega arith))
-    c.in-ok-mark.ensures space (omega (arith, c.bad-blocks.ensures.count))
+    c.in_ok-mark.ensures space (omega (arith, c.bad_blocks.ensures.count))

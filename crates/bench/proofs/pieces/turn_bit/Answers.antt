@@ -1,4 +1,4 @@
-use Rattle.std.proofs.Common.{◌+◌, ◌*◌, get_or, ap, arith}
+use Rattle.std.proofs.Common.{◌+◌, ◌*◌, get_or, ap}
 use lib.Bits.{bit_xor}
 use Rattle.bench.proofs.Turning.{turned_here, turned_other}
 use Rattle.bench.proofs.pieces.turn_bit.Goals as goal

@@ -11,7 +11,7 @@ loop-piece-preserved c =
     let inv = c.loop-piece.invariant in
     elim c.if-draw-eq1.branch [
       | then-draw-eq1 w ↦
-          let more = turned_more i old page w.turn-bit.new.page c.if-draw-eq1.page w.page-is inv.0 inv.1 w.turn-bit.ensures.here w.turn-bit.ensures.others in
+          let more = turned_more i old page w.turn_bit.new.page c.if-draw-eq1.page w.page-is inv.0 inv.1 w.turn_bit.ensures.here w.turn_bit.ensures.others in
           (more.0, more.1, omega (arith, w.turned-is))
       | else-draw-eq1 w ↦
           let more = turned_more i old page page c.if-draw-eq1.page w.page-is inv.0 inv.1 (same_piece page i) (λ j ne. refl) in

@@ -1,6 +1,6 @@
 use Rattle.std.proofs.Common.{◌≡◌, ◌≤◌}
 use Rattle.drive.specs.Nand.{bads}
-use Rattle.bench.specs.Store.{held, least, most}
+use Rattle.bench.specs.Store.{held}
 use Rattle.bench.proofs.store.Store.bad_blocks.Given as goal
 
 abbrev pub invariant-loop-block : goal.invariant-loop-block

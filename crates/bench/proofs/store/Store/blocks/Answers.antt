@@ -1,4 +1,4 @@
-use Rattle.std.proofs.Common.{ℕ, Bool, cond, sym, ap}
+use Rattle.std.proofs.Common.{Bool, cond, sym, ap}
 use Rattle.bench.proofs.Space.{space_parts}
 use Rattle.bench.proofs.store.Store.blocks.Goals as goal
 

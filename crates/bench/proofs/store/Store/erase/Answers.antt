@@ -17,14 +17,14 @@ worn-cell-requires c =
 pub wear-requires : goal.wear-requires
 wear-requires c = (inside _ _ _ _ _ _ c.requires.asked.1).state
 
-pub put-cell-requires : goal.put-cell-requires
-put-cell-requires c = (inside _ _ _ _ _ _ c.requires.asked.1).cell
+pub put_cell-requires : goal.put_cell-requires
+put_cell-requires c = (inside _ _ _ _ _ _ c.requires.asked.1).cell
 
 pub returns : goal.returns
 returns c =
     let s = c.args.self.now in
     let states = c.wear.new.states in
-    let cells = c.put-cell.new.cells in
-    subst (λ (b : Bool). Erasing (held s) c.args.block c.args.answer (nand_of s.bytes.now states cells s.blocks s.pages b (s.left - 1))) (sym c.still-on-self.ensures)
+    let cells = c.put_cell.new.cells in
+    subst (λ (b : Bool). Erasing (held s) c.args.block c.args.answer (nand_of s.bytes.now states cells s.blocks s.pages b (s.left - 1))) (sym c.still_on-self.ensures)
     (erase_by c.args.answer s.bytes.now s.states.now states s.cells.now cells s.blocks s.pages c.args.block s.left s.on c.requires.asked c.requires.on c.requires.failure c.requires.early
-    c.wear.auto.states c.put-cell.auto.cells c.wear.ensures.others c.put-cell.ensures.others c.wear.ensures.here (c.put-cell.ensures.here ∙ c.worn-cell.ensures))
+    c.wear.auto.states c.put_cell.auto.cells c.wear.ensures.others c.put_cell.ensures.others c.wear.ensures.here (c.put_cell.ensures.here ∙ c.worn-cell.ensures))

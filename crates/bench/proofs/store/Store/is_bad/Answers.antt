@@ -1,4 +1,3 @@
-use Rattle.std.proofs.Common.{arith}
 use Rattle.bench.proofs.Space.{inside}
 use Rattle.bench.proofs.store.Store.is_bad.Goals as goal
 

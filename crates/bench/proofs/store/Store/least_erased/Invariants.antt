@@ -1,6 +1,5 @@
-use Rattle.std.proofs.Common.{◌≡◌, ◌≤◌}
-use Rattle.drive.specs.Nand.{bads}
-use Rattle.bench.specs.Store.{held, least, most}
+use Rattle.std.proofs.Common.{◌≡◌}
+use Rattle.bench.specs.Store.{held, least}
 use Rattle.bench.proofs.store.Store.least_erased.Given as goal
 
 abbrev pub invariant-loop-block : goal.invariant-loop-block
