@@ -4,7 +4,7 @@ use Rattle.bench_tests.proofs.rewrite.Goals as goal
 
 pub write-requires : goal.write-requires
 write-requires g c =
-    rewritable (g.C.Chip.nand c.args.chip.now) c.args.bytes.now c.allow.ensures c.requires.within.0 (sym c.is-bad.ensures ∙ c.if-is-bad.false) c.requires.within.1 c.requires.whole c.in-Fine.ensures
+    rewritable (g.C.Chip.nand c.args.chip.now) c.args.bytes.now c.allow.ensures c.requires.within.0 (sym c.is_bad.ensures ∙ c.if-is_bad.false) c.requires.within.1 c.requires.whole c.in-Fine.ensures
 
 pub power-requires : goal.power-requires
 power-requires g c = erase_dark c.in-Dark.ensures
