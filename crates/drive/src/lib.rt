@@ -29,6 +29,7 @@ mod survey;
 pub mod ties;
 mod walk;
 
+pub use admission::{Refusal, Tags, admit};
 use journal::Journal;
 use queue::{Queue, accept, keep_bytes};
 use service::Served;

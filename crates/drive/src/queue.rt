@@ -2,14 +2,13 @@
 ghost use Rattle.std.specs.Prelude.{◌≡◌, ℕ, ◌+◌, ◌*◌, ◌<◌, ◌≤◌, List, length};
 ghost use Rattle.drive.specs.Host.{Seen, changes};
 ghost use Rattle.drive.specs.Promise.{cmd_of};
-ghost use Rattle.refusals.specs.Refusals.{has};
+ghost use Rattle.drive.specs.Admission.{has};
 ghost use Rattle.drive.specs.Queue.{slot_at, busy, came, Puts, Adds, First, Under, verdict, Settles, Stores};
 ghost use Rattle.drive.specs.declared.queue.Slot.TheVariants.{Free, Busy};
 ghost use Rattle.drive.specs.Service.{SameAsks};
 
 use crate::Ask;
-use crate::admission::admit;
-use refusals::{Refusal, Tags};
+use crate::admission::{Refusal, Tags, admit};
 
 // A command under way, how many of its sectors are done, and how many commands came before it.
 #[derive(Clone, Copy)]
