@@ -1,5 +1,5 @@
 use super::sweep;
-use bench::{BlockCell, ChipMemory, Counts, Geometry, MemoryChip, Mode, made};
+use bench::{BlockCell, ChipMemory, Counts, Geometry, MemoryChip, Mode, PageState, made};
 use std::test::Fail;
 
 // A chip is swept 60 times, some 11,000 asks, and in each sweep the power goes once.
@@ -16,7 +16,7 @@ fn exercise(chip: &mut MemoryChip<'_>) -> Counts {
 // What happened to a chip of 64 blocks, of 16 pages each, of which one is bad.
 fn counts_of(rt: HostRuntime, mode: Mode) -> Result<Counts, Fail> {
     let mut bytes = Vec::from_elem(rt.alloc(), 0u8, 64 * 16 * 4352)?;
-    let mut states = Vec::from_elem(rt.alloc(), 0u8, 64 * 16)?;
+    let mut states = Vec::from_elem(rt.alloc(), PageState::Blank, 64 * 16)?;
     let mut cells = Vec::from_elem(rt.alloc(), BlockCell::untouched(), 64)?;
     let memory = ChipMemory {
         bytes: bytes.as_mut_slice(),

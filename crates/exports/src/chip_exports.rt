@@ -2,7 +2,7 @@
 ghost use Rattle.std.specs.Prelude.{◌*◌, ◌≤◌, length, ◌≡◌};
 ghost use Rattle.bench_tests.specs.Asked.{Kept};
 
-use bench::{BlockCell, ChipMemory, Geometry, Mode, made, resume};
+use bench::{BlockCell, ChipMemory, Geometry, Mode, PageState, made, resume};
 use bench_tests::{look, rewrite};
 use drive::{Answer, Bench, Chip};
 
@@ -12,7 +12,7 @@ use drive::{Answer, Bench, Chip};
 pub extern "C" fn chip_read(pages: &mut [u8], page: &mut [u8], seed: u64, times: u64) -> u64
     ensures { result ≤ times }
 {
-    let mut states = [0u8; 512];
+    let mut states = [PageState::Blank; 512];
     let mut cells = [BlockCell::untouched(); 32];
     let memory = ChipMemory {
         bytes: pages,
@@ -67,7 +67,7 @@ fn read_once<C: Bench>(chip: &mut C, page: &mut [u8]) -> bool {
 #[unsafe(no_mangle)]
 pub extern "C" fn chip_fill(
     bytes: &mut [u8],
-    states: &mut [u8],
+    states: &mut [PageState],
     cells: &mut [BlockCell],
     page: &mut [u8],
     blocks: u32,
@@ -90,7 +90,7 @@ pub extern "C" fn chip_fill(
 #[unsafe(no_mangle)]
 pub extern "C" fn chip_scan(
     bytes: &mut [u8],
-    states: &mut [u8],
+    states: &mut [PageState],
     cells: &mut [BlockCell],
     page: &mut [u8],
     blocks: u32,

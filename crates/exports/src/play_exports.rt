@@ -1,7 +1,7 @@
 // Scripts, played on a drive over a chip in lent memory.
 ghost use Rattle.std.specs.Prelude.{◌≡◌, ◌≤◌, length};
 
-use bench::{BlockCell, ChipMemory, Geometry, MemoryChip, Mode, made, resume};
+use bench::{BlockCell, ChipMemory, Geometry, MemoryChip, Mode, PageState, made, resume};
 use drive::{Bench, Chip};
 use output::Output;
 use player::{Session, is_fit, play_script, print_erased};
@@ -51,7 +51,7 @@ const NO_SPACE: u32 = 4;
 pub extern "C" fn play(
     script: &[u8],
     bytes: &mut [u8],
-    states: &mut [u8],
+    states: &mut [PageState],
     cells: &mut [BlockCell],
     bad: &[u32],
     room: &mut [u8],

@@ -5,7 +5,7 @@ ghost use Rattle.std.specs.Prelude.{◌<◌};
 
 mod long;
 
-use bench::{BlockCell, ChipMemory, Geometry, MemoryChip, Mode, made};
+use bench::{BlockCell, ChipMemory, Geometry, MemoryChip, Mode, PageState, made};
 use long::{Long, play_long};
 use output::Output;
 use player::{Session, play_script, print_erased};
@@ -41,7 +41,7 @@ fn perform(
 fn rehearse(
     rt: &HostRuntime,
     pages: &mut [u8],
-    states: &mut [u8],
+    states: &mut [PageState],
     cells: &mut [BlockCell],
     room: &mut [u8],
     title: &str,
@@ -67,7 +67,7 @@ fn rehearse(
 fn rehearse_long(
     rt: &HostRuntime,
     pages: &mut [u8],
-    states: &mut [u8],
+    states: &mut [PageState],
     cells: &mut [BlockCell],
     room: &mut [u8],
     title: &str,
@@ -99,7 +99,7 @@ fn run<const PAGES: usize, const ROOM: usize>(rt: &HostRuntime) -> io::Result<()
 {
     let mut pages = [0u8; PAGES];
     let mut room = [0u8; ROOM];
-    let mut states = [0u8; 512];
+    let mut states = [PageState::Blank; 512];
     let mut cells = [BlockCell::untouched(); 32];
     play_short(rt, &mut pages, &mut states, &mut cells, &mut room)?;
     play_longer(rt, &mut pages, &mut states, &mut cells, &mut room)
@@ -109,7 +109,7 @@ fn run<const PAGES: usize, const ROOM: usize>(rt: &HostRuntime) -> io::Result<()
 fn play_short(
     rt: &HostRuntime,
     pages: &mut [u8],
-    states: &mut [u8],
+    states: &mut [PageState],
     cells: &mut [BlockCell],
     room: &mut [u8],
 ) -> io::Result<()> {
@@ -164,7 +164,7 @@ fn play_short(
 fn play_longer(
     rt: &HostRuntime,
     pages: &mut [u8],
-    states: &mut [u8],
+    states: &mut [PageState],
     cells: &mut [BlockCell],
     room: &mut [u8],
 ) -> io::Result<()> {

@@ -5,7 +5,7 @@ ghost use Rattle.std.specs.Prelude.{◌≡◌, ◌<◌, length};
 ghost use Rattle.bench.specs.Store.{held};
 ghost use Rattle.player.specs.Sessions.{Up};
 
-use bench::{BlockCell, ChipMemory, Geometry, MemoryChip, Mode, made};
+use bench::{BlockCell, ChipMemory, Geometry, MemoryChip, Mode, PageState, made};
 use line_buffer::LineBuffer;
 use output::Output;
 use player::{Session, play_line};
@@ -141,7 +141,7 @@ fn run<const PAGES: usize, const ROOM: usize>(rt: &HostRuntime) -> io::Result<()
 {
     let mut pages = [0u8; PAGES];
     let mut room = [0u8; ROOM];
-    let mut states = [0u8; 512];
+    let mut states = [PageState::Blank; 512];
     let mut cells = [BlockCell::untouched(); 32];
     let mut bytes = [0u8; 32768];
     let memory = ChipMemory {
