@@ -2,6 +2,7 @@
 ghost use Rattle.std.specs.Prelude.{◌*◌, ◌≤◌, length, ◌≡◌};
 ghost use Rattle.bench_tests.specs.Asked.{Kept};
 
+use crate::page_states::{MOST_PAGES, pack, unpack};
 use bench::{BlockCell, ChipMemory, Geometry, Mode, PageState, made, resume};
 use bench_tests::{look, rewrite};
 use drive::{Answer, Bench, Chip};
@@ -67,7 +68,7 @@ fn read_once<C: Bench>(chip: &mut C, page: &mut [u8]) -> bool {
 #[unsafe(no_mangle)]
 pub extern "C" fn chip_fill(
     bytes: &mut [u8],
-    states: &mut [PageState],
+    states: &mut [u8],
     cells: &mut [BlockCell],
     page: &mut [u8],
     blocks: u32,
@@ -75,22 +76,29 @@ pub extern "C" fn chip_fill(
 ) -> u64
     ensures { (length page.old ≡ 4352 → ⊥) → result ≡ 0 }
 {
+    if states.len() > MOST_PAGES {
+        return 0;
+    }
+    let mut noted = [PageState::Blank; MOST_PAGES];
+    unpack(states, &mut noted);
     let memory = ChipMemory {
         bytes,
-        states,
+        states: &mut noted[0..states.len()],
         cells,
     };
-    match made(memory, Geometry { blocks, pages }, &[], Mode::Plain) {
+    let done = match made(memory, Geometry { blocks, pages }, &[], Mode::Plain) {
         Ok(mut chip) => fill(&mut chip, page, &mut [0]),
         Err(_) => 0,
-    }
+    };
+    pack(&noted, states);
+    done
 }
 
 // On the chip that memory holds, reads the first page of each block and mends it, once for each page of a block; how many that were.
 #[unsafe(no_mangle)]
 pub extern "C" fn chip_scan(
     bytes: &mut [u8],
-    states: &mut [PageState],
+    states: &mut [u8],
     cells: &mut [BlockCell],
     page: &mut [u8],
     blocks: u32,
@@ -98,15 +106,22 @@ pub extern "C" fn chip_scan(
 ) -> u64
     ensures { (length page.old ≡ 4352 → ⊥) → result ≡ 0 }
 {
+    if states.len() > MOST_PAGES {
+        return 0;
+    }
+    let mut noted = [PageState::Blank; MOST_PAGES];
+    unpack(states, &mut noted);
     let memory = ChipMemory {
         bytes,
-        states,
+        states: &mut noted[0..states.len()],
         cells,
     };
-    match resume(memory, Geometry { blocks, pages }, Mode::Plain) {
+    let done = match resume(memory, Geometry { blocks, pages }, Mode::Plain) {
         Ok(mut chip) => scan(&mut chip, page, &mut [0]),
         Err(_) => 0,
-    }
+    };
+    pack(&noted, states);
+    done
 }
 
 // Erases each block and programs a sealed page.

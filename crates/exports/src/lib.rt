@@ -3,4 +3,5 @@
 
 mod chip_exports;
 mod codec_exports;
+mod page_states;
 mod play_exports;

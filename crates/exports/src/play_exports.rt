@@ -1,6 +1,7 @@
 // Scripts, played on a drive over a chip in lent memory.
 ghost use Rattle.std.specs.Prelude.{◌≡◌, ◌≤◌, length};
 
+use crate::page_states::{MOST_PAGES, pack, unpack};
 use bench::{BlockCell, ChipMemory, Geometry, MemoryChip, Mode, PageState, made, resume};
 use drive::{Bench, Chip};
 use output::Output;
@@ -51,7 +52,7 @@ const NO_SPACE: u32 = 4;
 pub extern "C" fn play(
     script: &[u8],
     bytes: &mut [u8],
-    states: &mut [PageState],
+    states: &mut [u8],
     cells: &mut [BlockCell],
     bad: &[u32],
     room: &mut [u8],
@@ -62,6 +63,41 @@ pub extern "C" fn play(
     ensures { (result ≤ 4) × (report.new.lines ≤ length script.now) }
 {
     *report = Report::none();
+    if states.len() > MOST_PAGES {
+        return NO_CHIP;
+    }
+    let mut noted = [PageState::Blank; MOST_PAGES];
+    unpack(states, &mut noted);
+    let status = play_in(
+        bytes,
+        &mut noted[0..states.len()],
+        cells,
+        bad,
+        script,
+        room,
+        out,
+        setup,
+        report,
+    );
+    pack(&noted, states);
+    status
+}
+
+// Plays a script on a drive over a chip that notes the states of pages here.
+fn play_in(
+    bytes: &mut [u8],
+    states: &mut [PageState],
+    cells: &mut [BlockCell],
+    bad: &[u32],
+    script: &[u8],
+    room: &mut [u8],
+    out: &mut [u8],
+    setup: &Setup,
+    report: &mut Report,
+) -> u32
+    requires { report.old.lines ≡ 0 }
+    ensures { (result ≤ 4) × (report.new.lines ≤ length script.now) }
+{
     let memory = ChipMemory {
         bytes,
         states,
