@@ -1,9 +1,9 @@
 -- The data sheet read backwards: what an answer says of a chip. Assumes nothing.
-use Rattle.std.proofs.Common.{◌≡◌, ℕ, ◌+◌, ◌-◌, ◌<◌, ◌≤◌, Bool, true, false, cond, not, T, eqb, List, length, sym, refl, ◌∙◌, subst, arith}
+use Rattle.std.proofs.Common.{◌≡◌, ℕ, ◌<◌, Bool, true, false, not, T, eqb, List, length, sym, refl, ◌∙◌, subst, arith}
 use Rattle.std.proofs.lemmas.Bool.{eq-eqb}
-use Rattle.drive.specs.Nand.{Nand, Block, MayErase, MayProgram, Erasing, Programming, Reading, allowed, lit}
+use Rattle.drive.specs.Nand.{Nand, MayErase, MayProgram, Erasing, Programming, Reading, allowed, lit}
 use Rattle.drive.specs.declared.Answer.{Answer}
-use Rattle.drive.specs.declared.Answer.TheVariants.{Fine, Failed, Dark}
+use Rattle.drive.specs.declared.Answer.TheVariants.{Fine, Dark}
 use Rattle.bench_tests.specs.Asked.{Kept}
 
 pub erase_kept : {n : Nand} {k : ℕ} {a : Answer} {m : Nand} → Erasing n k a m → Kept n m

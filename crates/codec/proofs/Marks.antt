@@ -1,6 +1,6 @@
 -- Marks: what is read within a bit of w's mark, off a page that was to hold v's, says that v is w.
 -- Assumes nothing.
-use Rattle.std.proofs.Common.{◌≡◌, ℕ, zero, suc, ◌+◌, ◌-◌, ◌*◌, ◌/◌, ◌%◌, ◌^◌, ◌<◌, ◌≤◌, Bool, true, false, cond, ◌&&◌, T, eqb, ltb, leb, ◌⊎◌, List, [], ◌∷◌, ◌++◌, length, sym, refl, ◌∙◌, ap₂, inl, inr, ⊎_elim, zero-le, pow-suc, arith, ltb→lt, lt→ltb, leb→le, length-append}
+use Rattle.std.proofs.Common.{◌≡◌, ℕ, zero, suc, ◌+◌, ◌-◌, ◌*◌, ◌/◌, ◌%◌, ◌^◌, ◌<◌, ◌≤◌, Bool, true, false, cond, ◌&&◌, T, eqb, ltb, leb, ◌⊎◌, List, [], ◌∷◌, ◌++◌, length, refl, ap₂, inl, inr, ⊎_elim, zero-le, pow-suc, arith, ltb→lt, lt→ltb, leb→le, length-append}
 use lib.ListN.{length-map}
 use Rattle.std.proofs.lemmas.Bool.{cases_lt, leb-true, leb-false, eqb-true, eqb-false}
 use Rattle.codec.specs.Bits.{every, all_bytes, apart_bits, apart, under_bits, under, turned, mark}

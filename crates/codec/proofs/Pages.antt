@@ -1,10 +1,10 @@
 -- A page that was written is read back. Assumes nothing.
-use Rattle.std.proofs.Common.{◌≡◌, ℕ, zero, suc, ◌+◌, ◌-◌, ◌*◌, ◌/◌, ◌%◌, ◌^◌, ◌<◌, ◌≤◌, Bool, true, false, cond, ◌&&◌, T, eqb, ltb, leb, ◌⊎◌, List, [], ◌∷◌, ◌++◌, length, get_or, take, drop, set, replicate, sym, refl, ap, ◌∙◌, subst, ap₂, inl, inr, ⊎_elim, zero-le, arith, eqb→eq, ltb→lt, lt→ltb, leb→le, length-append, length-drop, take-append-drop, length-take}
+use Rattle.std.proofs.Common.{◌≡◌, ℕ, zero, suc, ◌+◌, ◌*◌, ◌%◌, ◌<◌, ◌≤◌, Bool, true, false, cond, T, eqb, ltb, leb, List, [], ◌∷◌, ◌++◌, length, get_or, take, drop, set, replicate, sym, refl, ap, ◌∙◌, subst, ap₂, ⊎_elim, zero-le, arith, eqb→eq, ltb→lt, lt→ltb, leb→le, length-append, length-drop, take-append-drop, length-take}
 use lib.Bits.{bit_xor, xor_self, xor_lt, xor_zero_r}
 use lib.Count.{ones}
 use lib.Dec.{eqb_refl}
 use Rattle.std.proofs.lemmas.List.{set-get_or, nil_from_length, take-append-le, drop-append-le, drop-drop, get_or-drop, drop_at, take_all, length-replicate}
-use Rattle.std.proofs.lemmas.Bool.{cases_lt, cases_Bool}
+use Rattle.std.proofs.lemmas.Bool.{cases_lt}
 use Rattle.codec.specs.Bits.{every, all_bytes, apart_bits, apart, nearly, under_bits, under, same, turned, mark}
 use Rattle.codec.specs.Mending.{column, places, mended}
 use Rattle.codec.specs.Pages.{checks, guarded, rest, paged, repaired, checks_in, mark_in, data_in, PageTold, TornTold, BlankTold}

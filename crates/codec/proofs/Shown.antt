@@ -1,8 +1,8 @@
 -- What `mark_of` shows. Assumes nothing.
-use Rattle.std.proofs.Common.{◌≡◌, ℕ, ◌+◌, ◌<◌, ◌≤◌, Bool, true, false, cond, T, leb, ◌⊎◌, List, length, take, drop, Some, None, Option, sym, refl, ap, ◌∙◌, subst, inl, inr, ⊎_elim, arith, length-drop, length-take}
+use Rattle.std.proofs.Common.{◌≡◌, ℕ, ◌<◌, ◌≤◌, Bool, true, false, cond, T, leb, List, length, take, drop, Some, None, sym, refl, ap, ◌∙◌, subst, ⊎_elim, arith, length-drop, length-take}
 use Rattle.std.proofs.lemmas.Bool.{cases_lt, cases_Bool, leb-true, leb-false}
 use Rattle.codec.specs.Bits.{all_bytes, apart, same, mark}
-use Rattle.codec.specs.Pages.{mark_in, shown, mark_of, WrittenPage, TornPage, BlankPage}
+use Rattle.codec.specs.Pages.{mark_in, shown, WrittenPage, TornPage, BlankPage}
 use Rattle.codec.proofs.Pages.{all_take, all_drop, page_told, torn_told, blank_told}
 
 pub near : (t w : List ℕ) → w ≡ mark_in t → apart (mark w) t ≤ 1 → Some w ≡ shown t

@@ -3,9 +3,9 @@ use Rattle.std.proofs.Common.{◌≡◌, ℕ, zero, suc, ◌+◌, ◌-◌, ◌*�
 use borrow.Rule.Slice.PartMut.{put_mid}
 use lib.Bits.{bit_xor, xor_mod, xor_shr, xor_lt}
 use lib.Count.{ones, ones_step, ones-ones, ones-le}
-use Rattle.std.proofs.lemmas.List.{append-nil, get_or-drop, drop-drop, length-set, take_more, take_more_set, map_more, take_all}
+use Rattle.std.proofs.lemmas.List.{append-nil, get_or-drop, drop-drop, length-set, take_more, take_more_set, map_more}
 use Rattle.std.proofs.lemmas.Slice.{take-put_mid, drop-put_mid}
-use Rattle.codec.specs.Bits.{apart_bits, apart, turned, mark}
+use Rattle.codec.specs.Bits.{apart_bits, apart, turned}
 use Rattle.codec.proofs.Marks.{fails}
 use Rattle.codec.specs.Mending.{column, places, mended}
 use Rattle.codec.specs.Pages.{repaired, checks_in, data_in}

@@ -1,12 +1,10 @@
 -- The steps of the functions that write a page. Assumes nothing.
-use Rattle.std.proofs.Common.{◌≡◌, ℕ, zero, suc, ◌+◌, ◌-◌, ◌*◌, ◌<◌, ◌≤◌, Bool, true, false, cond, T, List, [], ◌∷◌, ◌++◌, length, get_or, take, drop, set, replicate, sym, refl, ap, ◌∙◌, subst, ap₂, append_assoc, add-one, arith, length-append, length-drop, length-take}
-use borrow.Rule.Slice.PartMut.{put_mid}
+use Rattle.std.proofs.Common.{◌≡◌, ℕ, zero, suc, ◌+◌, ◌-◌, ◌*◌, ◌<◌, ◌≤◌, Bool, true, false, cond, T, List, [], ◌∷◌, ◌++◌, length, take, drop, set, replicate, sym, refl, ap, ◌∙◌, subst, ap₂, append_assoc, add-one, arith, length-drop}
 use Rattle.std.proofs.lemmas.List.{drop-drop, drop-take, take_more_set, drop-set-add, take_all, take_at, take-take, length-take-le, length-set}
-use Rattle.codec.specs.Bits.{all_bytes, apart, same, turned, mark}
+use Rattle.codec.specs.Bits.{all_bytes, same, turned, mark}
 use Rattle.codec.specs.Mending.{column, places}
 use Rattle.codec.specs.Pages.{checks, guarded, rest, paged, mark_in}
 use Rattle.codec.proofs.Pages.{same_is, same_refl, all_take}
-use Rattle.codec.proofs.Steps.{put_done}
 
 pub put_mark_done : (a : ℕ) (v p q r s t u w : List ℕ) → length v ≡ 32
     → take (a + length v) q ≡ take a p ++ v → take (a + 32 + length v) r ≡ take (a + 32) q ++ v → take (a + 64 + length v) s ≡ take (a + 64) r ++ v

@@ -1,7 +1,7 @@
 -- The log never outgrows its room: what every step of it keeps. Assumes nothing.
-use Rattle.std.proofs.Common.{◌≡◌, ℕ, zero, suc, ◌+◌, ◌-◌, ◌*◌, ◌/◌, ◌%◌, ◌<◌, ◌≤◌, max, Bool, true, false, cond, eqb, ◌⊎◌, List, [], ◌∷◌, ◌++◌, length, sym, refl, ap, ◌∙◌, subst, inl, inr, ⊎_elim, append_assoc, append-nil, mul-le-mul_right, mul_assoc, suc-mul, mul_comm, mul-le-mul_left, mul-pos, mul-one, mul-add, mul_left_comm, arith, length-append}
+use Rattle.std.proofs.Common.{◌≡◌, ℕ, zero, suc, ◌+◌, ◌-◌, ◌*◌, ◌/◌, ◌<◌, ◌≤◌, cond, eqb, ◌⊎◌, List, [], ◌∷◌, ◌++◌, length, sym, refl, ap, ◌∙◌, subst, inl, inr, ⊎_elim, append_assoc, append-nil, mul-le-mul_right, mul_assoc, suc-mul, mul_comm, mul-le-mul_left, mul-pos, mul-one, mul-add, mul_left_comm, arith, length-append}
 use Rattle.std.proofs.lemmas.Bool.{cases_lt, cases_eq, cond_both, eqb-true, eqb-false}
-use Rattle.laws.specs.Space.{size_of, Entry, written, copied, seal, Of, Has, Due, LogSteps, LogFits, LogLength, good_blocks, spare_blocks, log_room, log_threshold, Sheet, RoomSuffices, SpareStaysFree}
+use Rattle.laws.specs.Space.{size_of, Entry, written, copied, seal, Of, Has, LogSteps, LogFits, LogLength, good_blocks, spare_blocks, log_room, log_threshold, RoomSuffices, SpareStaysFree}
 
 -- ---- counting
 

@@ -1,5 +1,5 @@
 -- What each step of the log changes of what the sectors hold. Assumes nothing.
-use Rattle.std.proofs.Common.{◌≡◌, ℕ, suc, ◌+◌, ◌-◌, ◌<◌, ◌≤◌, true, false, cond, eqb, ltb, leb, ◌≢◌, ◌⊎◌, List, [], ◌∷◌, map, length, sym, refl, ap, ◌∙◌, subst, inl, inr, ⊎_elim, arith}
+use Rattle.std.proofs.Common.{◌≡◌, ℕ, suc, ◌+◌, ◌-◌, ◌<◌, ◌≤◌, true, false, cond, eqb, ltb, leb, ◌≢◌, List, [], ◌∷◌, map, length, sym, refl, ap, ◌∙◌, subst, inl, inr, ⊎_elim, arith}
 use Rattle.std.proofs.lemmas.Bool.{cases_Bool, cases_lt, cond-true, cond-false, le-leb, lt-leb, lt-ltb, le-ltb, eq-eqb, ne_eqb, eqb-true, and_parts, and_from, and_left, both_ways}
 use Rattle.laws.specs.Log.{noughts, contents, Record, Log, data_kind, seal_kind, is_data, is_seal, holds, live, held, unsealed, record_at, place_in, is_newest, copied, bare}
 use Rattle.laws.specs.LogLaws.{AppendChangesOne, SealChangesNone, OthersChangeNone, CopyChangesNone, MoveChangesNone, CopyAndMoveChangesNone, SealsSayNothing, PlaceSays, TailsSayNothing}

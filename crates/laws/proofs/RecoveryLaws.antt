@@ -1,6 +1,6 @@
 -- Coming up never loses what was told, as long as fewer comings-up in a row are cut than there are good slots. Assumes nothing.
 use Rattle.std.proofs.Common.{◌≡◌, ℕ, zero, suc, ◌+◌, ◌<◌, ◌≤◌, Bool, true, false, cond, eqb, ltb, ◌⊎◌, sym, refl, ap, ◌∙◌, subst, inl, inr, ⊎_elim, arith, lit<, lit≤}
-use Rattle.std.proofs.lemmas.Bool.{cond_both, eqb-true, eqb-false, cond-true, cond-false, eq-eqb, ne_eqb, cases_eq, cases_Bool, cases_lt, both_ways, lt-ltb, le-ltb}
+use Rattle.std.proofs.lemmas.Bool.{cond_both, cond-true, cond-false, eq-eqb, ne_eqb, cases_eq, cases_Bool, cases_lt, both_ways, lt-ltb, le-ltb}
 use Rattle.laws.specs.Wear.{put}
 use Rattle.laws.specs.Recovery.{Page, blank, written, torn, Slot, Chip, tear, half_erased, erased_slot, copy_of, Seen, Look, Committed, Believed, Unread, Cleared, NextSlot, Above, sum_of, good_slots, bad_slots, Phase, off, rising, opened, filled, On, up_by, first_chip, Life, Recovers, FailedBelow, OneCutMore}
 

@@ -1,5 +1,5 @@
 -- Blocks are taken in turn, and so wear evenly. Assumes nothing.
-use Rattle.std.proofs.Common.{◌≡◌, ℕ, zero, suc, ◌+◌, ◌*◌, ◌<◌, ◌≤◌, Bool, true, false, cond, eqb, ◌⊎◌, sym, refl, ap, ◌∙◌, subst, inl, inr, ⊎_elim, suc-mul, arith}
+use Rattle.std.proofs.Common.{◌≡◌, ℕ, zero, suc, ◌+◌, ◌*◌, ◌<◌, ◌≤◌, eqb, ◌⊎◌, sym, refl, ap, ◌∙◌, subst, inl, inr, ⊎_elim, suc-mul, arith}
 use Rattle.std.proofs.lemmas.Bool.{cond_both, eqb-true, eqb-false, cond-true, cond-false, eq-eqb, ne_eqb, cases_eq}
 use Rattle.laws.specs.Wear.{Place, free, used, bad, Good, Block, Wear, unworn, put, with_block, Next, as_taken, moved, cleared, take_block, Step, Steps, TakenInTurn, WornEvenly, counted, count_good, WearBounded}
 

@@ -1,6 +1,6 @@
 -- The laws of the log, each as one statement.
 -- Assumes nothing.
-use Rattle.std.specs.Prelude.{◌≡◌, ℕ, ◌+◌, ◌-◌, ◌<◌, ◌≤◌, true, false, cond, ◌≢◌, List, ◌∷◌, ◌++◌, map, length, nat_lt}
+use Rattle.std.specs.Prelude.{◌≡◌, ℕ, ◌-◌, ◌<◌, ◌≤◌, true, false, cond, ◌≢◌, List, ◌∷◌, ◌++◌, map, length, nat_lt}
 use Rattle.laws.specs.Log.{noughts, Record, Log, data_kind, seal_kind, is_seal, live, held, contents, unsealed, record_at, place_in, is_newest, append, copied, moved, reopened, CutLeaves, HeldSinceSeal, Reopens, keep_of, bare, sealed, WellFormed}
 
 -- ---- what each step changes

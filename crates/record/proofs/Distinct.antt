@@ -1,10 +1,7 @@
 -- No two marks, headers or entries have the same bytes. Assumes nothing.
-use Rattle.std.proofs.Common.{◌≡◌, ℕ, List, Some, None, Option, sym, refl, ap, ◌∙◌, ap₂, arith}
+use Rattle.std.proofs.Common.{◌≡◌, Some, None, Option, sym, refl, ap, ◌∙◌, ap₂, arith}
 use denote.Struct.Record.{values_one}
 use Rattle.record.specs.declared.numbers.BlockIndex.{BlockIndex}
-use Rattle.record.specs.declared.numbers.PageIndex.{PageIndex}
-use Rattle.record.specs.declared.numbers.SectorNumber.{SectorNumber}
-use Rattle.record.specs.declared.numbers.TableNumber.{TableNumber}
 use Rattle.record.specs.declared.numbers.RecordIndex.{RecordIndex}
 use Rattle.record.specs.declared.numbers.BlockNumber.{BlockNumber}
 use Rattle.record.specs.declared.marks.Origin.{Origin}

@@ -1,5 +1,5 @@
 -- The bytes of a mark. Assumes nothing.
-use Rattle.std.proofs.Common.{◌≡◌, ℕ, ◌+◌, ◌-◌, ◌<◌, ◌≤◌, List, [], ◌∷◌, ◌++◌, length, get_or, take, drop, sym, refl, ap, ◌∙◌, append_assoc, arith, length-append}
+use Rattle.std.proofs.Common.{◌≡◌, ℕ, ◌<◌, List, [], ◌∷◌, ◌++◌, length, get_or, take, drop, sym, refl, ap, ◌∙◌, append_assoc, arith, length-append}
 use denote.Struct.Record.{values_one}
 use Rattle.std.proofs.lemmas.List.{take_at, drop_at, drop_more, append-nil, drop_all, take_all, take-append-drop}
 use Rattle.words.specs.Words.{little, value_at}

@@ -1,5 +1,5 @@
 -- The data of a header page: 40 bytes, and 8 bytes for each record of the predecessor that counts. Assumes nothing.
-use Rattle.std.specs.Prelude.{ℕ, ◌+◌, ◌*◌, List, [], ◌∷◌, ◌++◌, take, drop, Some, None, Option}
+use Rattle.std.specs.Prelude.{ℕ, ◌+◌, ◌*◌, List, ◌++◌, take, drop, Some, None, Option}
 use Rattle.words.specs.Words.{little}
 use Rattle.record.specs.declared.headers.Predecessor.{Predecessor}
 use Rattle.record.specs.declared.headers.HeaderData.{HeaderData}

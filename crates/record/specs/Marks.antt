@@ -1,5 +1,5 @@
 -- The 32 bytes of a mark. Assumes nothing.
-use Rattle.std.specs.Prelude.{ℕ, List, [], ◌∷◌, ◌++◌, Some, None, Option}
+use Rattle.std.specs.Prelude.{ℕ, List, ◌∷◌, ◌++◌, Some, None, Option}
 use Rattle.words.specs.Words.{little}
 use Rattle.record.specs.declared.numbers.BlockIndex.{BlockIndex}
 use Rattle.record.specs.declared.marks.HeaderMark.{HeaderMark}

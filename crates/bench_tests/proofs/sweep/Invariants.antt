@@ -1,4 +1,3 @@
-use Rattle.std.proofs.Common.{◌<◌}
 use Rattle.bench_tests.specs.Asked.{Kept}
 use Rattle.bench_tests.proofs.sweep.Given as goal
 

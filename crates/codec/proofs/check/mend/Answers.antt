@@ -1,7 +1,7 @@
-use Rattle.std.proofs.Common.{◌≡◌, get_or, set, sym, ◌∙◌, ap₂}
+use Rattle.std.proofs.Common.{get_or}
 use lib.Bits.{bit_xor}
 use Rattle.std.proofs.lemmas.List.{set_past}
-use Rattle.codec.specs.Mending.{column, places, mended}
+use Rattle.codec.specs.Mending.{mended}
 use Rattle.codec.proofs.check.mend.Goals as goal
 
 pub returns-then-i-piece : goal.returns-then-i-piece

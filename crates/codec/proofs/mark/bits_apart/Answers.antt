@@ -1,6 +1,4 @@
-use Rattle.std.proofs.Common.{◌≡◌, ◌+◌, ◌<◌, ◌≤◌, get_or, sym, refl, ap, ◌∙◌, ap₂, arith, rules}
-use lib.Bits.{bit_xor}
-use lib.Count.{ones}
+use Rattle.std.proofs.Common.{◌<◌, get_or, refl, ◌∙◌, ap₂, arith, rules}
 use Rattle.std.proofs.lemmas.List.{take_all}
 use Rattle.codec.specs.Bits.{apart}
 use Rattle.codec.proofs.Steps.{apart_more, xor_ones_le}

@@ -1,4 +1,4 @@
-use Rattle.std.proofs.Common.{◌≡◌, ◌*◌, length, take, drop}
+use Rattle.std.proofs.Common.{◌≡◌, ◌*◌, take, drop}
 use Rattle.codec.specs.Pages.{repaired}
 use Rattle.codec.proofs.page.unseal.Given as goal
 

@@ -1,4 +1,4 @@
-use Rattle.std.proofs.Common.{◌≡◌, ◌+◌, ◌-◌, ◌*◌, sym, ap, ◌∙◌, arith, rules}
+use Rattle.std.proofs.Common.{◌+◌, ◌*◌, sym, rules}
 use Rattle.words.proofs.Words.{part}
 use Rattle.record.specs.Contents.{tag_of}
 use Rattle.record.specs.Marks.{tag_bytes}
