@@ -1,5 +1,5 @@
 -- A drive stays ready while it isn't asked for a turn. Assumes nothing.
-use Rattle.std.proofs.Common.{◌≡◌, ℕ, List, length, sym, ap, ◌∙◌, subst}
+use Rattle.std.proofs.Common.{◌≡◌, ℕ, List, length, sym, ap, subst}
 use Rattle.drive.specs.Nand.{Nand, allowed}
 use Rattle.drive.specs.Journals.{Ready}
 use Rattle.drive.specs.Service.{Standing}

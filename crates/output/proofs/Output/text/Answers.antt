@@ -1,4 +1,4 @@
-use Rattle.std.proofs.Common.{ℕ, List, ◌++◌, refl, ap, subst}
+use Rattle.std.proofs.Common.{ℕ, List, ◌++◌, refl, subst}
 use Rattle.std.proofs.lemmas.List.{take_all}
 use Rattle.output.specs.Outputs.{Shows}
 use Rattle.output.proofs.Printing.{shows_next}
