@@ -2,8 +2,9 @@
 -- Assumes nothing.
 use Rattle.std.specs.Prelude.{◌≡◌, ℕ, ◌-◌, ◌*◌, ◌<◌, ◌≤◌, true, false, ◌≢◌, List, [], ◌∷◌, map, length, take, drop}
 use mathlib.Core.List.{Memᴰ}
-use Rattle.drive.specs.Host.{Cmd, Read, Write, Trim, Flush, Way, Seen, noughts, fresh, rising, begun, takes, older, ended, left}
-use Rattle.laws.specs.Log.{Record, Log, data_kind, seal_kind, is_seal, contents, is_newest, append, copied, moved, reopened, CutLeaves, CutDuring, bare, sealed, Ordered, WellFormed}
+use Rattle.drive.specs.Host.{Cmd, Read, Write, Trim, Flush, Way, Seen, noughts, fresh, rising, begun, takes, older, ended, left, size_of}
+use Rattle.laws.specs.Log.{noughts as noughts', Record, Log, data_kind, seal_kind, is_seal, contents, is_newest, append, copied, moved, reopened, CutLeaves, CutDuring, bare, sealed, Ordered, WellFormed}
+use Rattle.laws.specs.Space.{size_of as size_of'}
 use Rattle.drive.specs.Ties.{Lasts, Fits, taken}
 
 -- ---- steps that are seen
@@ -121,3 +122,13 @@ abbrev pub AppendLasts : Type 0
 AppendLasts =
     (h : Seen) (l : Log) (lo : ℕ → ℕ) (f k s : ℕ) (b : List ℕ) → ((t : ℕ) → contents (append f k s b l) t ≡ contents l t) → Fits h l → Lasts lo h l →
     Lasts lo h (append f k s b l)
+
+-- ---- the laws of the log speak of the drive's sectors
+
+-- they count as many sectors as the promise does
+abbrev pub SameSize : Type 0
+SameSize = (total : ℕ) → size_of' total ≡ size_of total
+
+-- and a sector that was never written holds by them what it holds by the promise
+abbrev pub SameNoughts : Type 0
+SameNoughts = noughts' ≡ noughts

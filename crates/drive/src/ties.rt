@@ -1,5 +1,5 @@
 // The laws that tie the log to what is seen, each the contract of a function.
-ghost use Rattle.drive.specs.TiesLaws.{NewFits, RisingFits, AskedFits, ReadFits, WriteFits, TrimFits, TakenFits, TurnedFits, ToldFits, FlushedFits, LastingFits, CutFits, OpenedFits, SealFits, OtherFits, CopyFits, MoveFits, CopyAndMoveFits, OtherTailsFit, LastsLess, TakenLasts, AppendLasts, CutDuringFits, CutNeedsSeal};
+ghost use Rattle.drive.specs.TiesLaws.{NewFits, RisingFits, AskedFits, ReadFits, WriteFits, TrimFits, TakenFits, TurnedFits, ToldFits, FlushedFits, LastingFits, CutFits, OpenedFits, SealFits, OtherFits, CopyFits, MoveFits, CopyAndMoveFits, OtherTailsFit, LastsLess, TakenLasts, AppendLasts, CutDuringFits, CutNeedsSeal, SameSize, SameNoughts};
 
 // An empty log fits what was never used.
 pub fn new_fits() -> u8
@@ -165,6 +165,14 @@ pub fn taken_lasts() -> u8
 // And while records are appended that change no content.
 pub fn append_lasts() -> u8
     ensures { AppendLasts }
+{
+    0
+}
+
+// The laws of the log speak of the drive's sectors.
+pub fn same_sectors() -> u8
+    ensures size { SameSize }
+    ensures noughts { SameNoughts }
 {
     0
 }

@@ -5,7 +5,7 @@ ghost use Rattle.exports.specs.States.{state_of, StandFor};
 use bench::PageState;
 
 // The most pages of a chip in memory that Rust lends.
-pub const MOST_PAGES: usize = 16_384;
+pub const MOST_PAGES: usize = 65_536;
 
 // The byte that stands for a state.
 fn code_of(state: PageState) -> u8
