@@ -57,7 +57,7 @@ impl CopiedRepository {
 
     /// Proves and builds the library in the copy; who refused it, if somebody did.
     fn prove(&self) -> Result<Option<String>, String> {
-        let output = run(Command::new("rt").args(["staticlib", "exports"]).current_dir(&self.copy))?;
+        let output = run(Command::new("rt").arg("lib").current_dir(self.copy.join("crates/exports")))?;
         Ok(if output.status.success() { None } else { Some(fault::refusal(&text(&output))) })
     }
 
@@ -66,7 +66,7 @@ impl CopiedRepository {
         let target = self.copy.join("hunt");
         let mut build = Command::new("cargo");
         build.args(["build", "--release", "--offline", "--bin", "hunt"]).current_dir(&self.rust);
-        build.env("CURRYCREAM_LIBRARY", self.copy.join("target/staticlib")).env("CARGO_TARGET_DIR", &target);
+        build.env("CURRYCREAM_LIBRARY", self.copy.join("crates/exports/out")).env("CARGO_TARGET_DIR", &target);
         let built = run(&mut build)?;
         if !built.status.success() {
             return Err(text(&built));
