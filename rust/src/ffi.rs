@@ -88,7 +88,7 @@ pub fn read_chip(memory: &mut [u8], page: &mut [u8; PAGE], seed: u64, times: u64
     unsafe { raw::chip_read(memory.as_mut_ptr(), memory.len(), page.as_mut_ptr(), page.len(), seed, times) }
 }
 
-/// Plays a script: 0 all lines were played, 1 it ended at a cut, 2 no such chip, 3 room too small, 4 output too small.
+/// Plays a script: 0 all lines were played, 1 it ended at a cut, 2 no such chip or more than 65,536 pages, 3 room too small, 4 output too small.
 pub fn play(script: &str, chip: &mut Chip, bad: &[u32], room: &mut [u8], out: &mut [u8], setup: &Setup) -> (u32, Report) {
     let mut report = Report::default();
     let (bytes, states, cells) = (&mut chip.bytes, &mut chip.states, &mut chip.cells);

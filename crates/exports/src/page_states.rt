@@ -4,7 +4,7 @@ ghost use Rattle.exports.specs.States.{state_of, StandFor};
 
 use bench::PageState;
 
-// The most pages of a chip in memory that Rust lends.
+// The most states that Rust may lend.
 pub const MOST_PAGES: usize = 65_536;
 
 // The byte that stands for a state.

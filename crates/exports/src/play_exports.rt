@@ -40,7 +40,7 @@ pub struct Report {
 const PLAYED: u32 = 0;
 // It ended when the power went.
 const ENDED: u32 = 1;
-// There is no chip of that geometry, memory and list of bad blocks.
+// There is no chip of that geometry, memory and list of bad blocks, or more states are lent than can be noted.
 const NO_CHIP: u32 = 2;
 // The room is too small.
 const NO_ROOM: u32 = 3;

@@ -125,7 +125,7 @@ fn draw_map(drawing: &mut Drawing, x: f64, y: f64, words: &str, chip: &Chip) {
 fn draw_maps(before: &Chip, after: &Chip) -> String {
     let mut drawing = Drawing::new(760, 590, "A chip at a cut and after coming up");
     drawing.label(44.0, 30.0, 17, Anchor::Start, INK, "A chip of 32 blocks of 16 pages");
-    drawing.label(44.0, 50.0, 13, Anchor::Start, FAINT, "each row a block, each cell a page");
+    drawing.label(44.0, 50.0, 13, Anchor::Start, FAINT, "a line for each block, a cell for each page");
     draw_map(&mut drawing, 44.0, 108.0, "at a cut", before);
     draw_map(&mut drawing, 428.0, 108.0, "after coming up", after);
     let mut x = 44.0;
