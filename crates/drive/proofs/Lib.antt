@@ -2,10 +2,9 @@ pub mod Bridge
 pub mod Ways
 pub mod Runs
 pub mod Examples
-pub mod Sheet
-pub mod Heads
 pub mod TiesSteps
 pub mod Readiness
 pub mod Built
 pub mod Verdicts
 pub mod Unders
+pub mod Fronts

@@ -1,5 +1,5 @@
 -- The queue and the commands under way keep step. Assumes nothing.
-use Rattle.std.proofs.Common.{◌≡◌, ℕ, Bool, true, false, cond, ◌||◌, eqb, List, [], ◌∷◌, sym, refl, ap, ◌∙◌, arith}
+use Rattle.std.proofs.Common.{◌≡◌, ℕ, Bool, true, false, cond, ◌||◌, eqb, Option, Some, None, List, [], ◌∷◌, sym, refl, ap, ◌∙◌, arith}
 use mathlib.Core.List.Memᴰ
 use Rattle.std.proofs.lemmas.Bool.{ne_eqb}
 use Rattle.std.proofs.lemmas.Bool.Decides.{nat_tests}
@@ -7,8 +7,6 @@ use Rattle.drive.specs.Bits.{some'}
 use Rattle.drive.specs.Host.{Cmd, Way, Seen, begun, gone, ended}
 use Rattle.drive.specs.Queue.{slot_at, busy, Puts, Adds, Under}
 use Rattle.drive.specs.declared.Ask.{Ask}
-use Rattle.drive.specs.declared.queue.Slot.{Slot}
-use Rattle.drive.specs.declared.queue.Slot.TheVariants.{Free as Empty, Busy}
 use Rattle.drive.specs.declared.queue.Pending.{Pending}
 use Rattle.drive.specs.declared.queue.Queue.{Queue}
 use Rattle.drive.proofs.Ways.{Free, Single}
@@ -17,11 +15,11 @@ use Rattle.drive.proofs.Ways.{Free, Single}
 abbrev tagged : ℕ → List Way → Bool
 tagged t ws = some' (λ (w : Way). eqb t w.tag) ws
 
-busy-put : (b : Bool) (p : Pending) (s : Slot) → busy (cond b (Busy p) s) ≡ (b || busy s)
+busy-put : (b : Bool) (p : Pending) (s : Option Pending) → busy (cond b (Some p) s) ≡ (b || busy s)
 busy-put true p s = refl
 busy-put false p s = refl
 
-busy_freed : (b : Bool) (s : Slot) → busy (cond b Empty s) ≡ cond b false (busy s)
+busy_freed : (b : Bool) (s : Option Pending) → busy (cond b None s) ≡ cond b false (busy s)
 busy_freed true s = refl
 busy_freed false s = refl
 
@@ -52,7 +50,7 @@ tagged-gone x t (w ∷ ws) k =
     ∙ gone_step x t w.tag (tagged x ws) (tagged x (gone t ws)) (λ e. free_none x ws (λ v m p. k.0 v m (sym e ∙ p))) (tagged-gone x t ws k.1)
 
 -- a command whose slot is freed is under way no more
-pub under-ended : (q p : Queue) (h : Seen) (w : Way) → Puts q w.tag Empty p → Single h.ways → Under q h → Under p (ended w h)
+pub under-ended : (q p : Queue) (h : Seen) (w : Way) → Puts q w.tag None p → Single h.ways → Under q h → Under p (ended w h)
 under-ended q p h w d k u x l =
     ap busy (d.slots x l) ∙ busy_freed (eqb x w.tag) (slot_at q x) ∙ ap (λ (b : Bool). cond (eqb x w.tag) false b) (u x l)
     ∙ sym (tagged-gone x w.tag h.ways k)

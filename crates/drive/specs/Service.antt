@@ -1,6 +1,7 @@
 -- What the drive's own functions keep.
 -- Assumes nothing.
 use Rattle.std.specs.Prelude.{◌≡◌, ℕ, ◌*◌, ◌/◌, ◌<◌, false, List, Some, None, Ok, Err, Option, Result, ◌≢◌}
+use Rattle.std.specs.Option.{option_map}
 use Rattle.drive.specs.Nand.{Nand}
 use Rattle.drive.specs.Journals.{Ready}
 use Rattle.drive.specs.Queue.{slot_at}
@@ -9,15 +10,13 @@ use Rattle.drive.specs.declared.Gone.{Gone}
 use Rattle.drive.specs.declared.Drive.{Drive}
 use Rattle.drive.specs.declared.Ended.{Ended}
 use Rattle.drive.specs.declared.queue.Queue.{Queue}
-use Rattle.drive.specs.declared.queue.Slot.{Slot}
-use Rattle.drive.specs.declared.queue.Slot.TheVariants.{Free, Busy}
+use Rattle.drive.specs.declared.queue.Pending.{Pending}
 use Rattle.drive.specs.declared.service.Served.{Served}
 use Rattle.drive.specs.declared.service.Served.TheVariants.{More, Idle, Ended as Ended'}
 
--- the command that stands in a slot, if one does
-abbrev pub ask_of : Slot → Option Ask
-ask_of Free = None
-ask_of (Busy p) = Some p.ask
+-- what was asked, if a command is under way
+abbrev pub ask_of : Option Pending → Option Ask
+ask_of s = option_map (λ (p : Pending). p.ask) s
 
 -- the command under a tag
 abbrev pub ask_at : Queue → ℕ → Option Ask
@@ -46,7 +45,7 @@ Standing n d room = Ready n d.journal room × (d.journal.asks ≡ 0)
 
 -- after coming up: no command is under way, and all is ready
 abbrev pub Came : Result Drive Gone → Nand → List ℕ → Type 0
-Came (Ok d) n room = Standing n d room × ((t : ℕ) → slot_at d.queue t ≡ Free)
+Came (Ok d) n room = Standing n d room × ((t : ℕ) → slot_at d.queue t ≡ None)
 Came (Err e) n room = n.on ≡ false
 
 -- after a turn: all is ready for the next, or the power has gone

@@ -29,9 +29,10 @@ mod survey;
 pub mod ties;
 mod walk;
 
-pub use admission::{Refusal, Tags, admit};
+pub use admission::admit;
 use journal::Journal;
-use queue::{Queue, accept, keep_bytes};
+use queue::{Queue, keep_bytes};
+pub use refusals::{Refusal, Tags};
 use service::Served;
 
 // What a chip answers. Dark: the power has gone, and it answers so from then on.
@@ -163,11 +164,13 @@ impl Drive {
         ensures keeps { self.new.journal ≡ self.old.journal }
     {
         let sectors = 5 * u64::from(self.journal.shape.total) / 8;
-        let why = accept(&mut self.queue, self.journal.stuck, sectors, tag, a);
-        if why == 0 {
-            keep_bytes(room, tag, a, bytes);
+        match self.queue.accept(self.journal.stuck, sectors, tag, a) {
+            Ok(()) => {
+                keep_bytes(room, tag, a, bytes);
+                0
+            }
+            Err(why) => u8::from(why),
         }
-        why
     }
 
     // Whether no command is under way.

@@ -5,7 +5,6 @@ ghost use Rattle.drive.specs.Journals.{Ready, Rose, Unknown};
 ghost use Rattle.drive.specs.Service.{Serves};
 
 use crate::journal::Journal;
-use crate::queue::Slot;
 use crate::room::Shape;
 use crate::steps::Progress;
 use crate::{Chip, Drive, Ended, Gone};
@@ -83,7 +82,7 @@ impl Drive {
         let Some(tag) = self.queue.front() else {
             return Ok(Served::Idle);
         };
-        let Slot::Busy(pending) = self.queue.slot(tag) else {
+        let Some(pending) = self.queue.slot(tag) else {
             return Ok(Served::Idle);
         };
         match self.journal.step(c, room, out, tag, pending)? {

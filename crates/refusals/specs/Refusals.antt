@@ -1,6 +1,6 @@
 -- Which commands are turned away before anything is done for them.
 -- Assumes nothing.
-use Rattle.std.specs.Prelude.{ℕ, ◌+◌, Bool, false, cond, ◌||◌, Some, None, Ok, Err, Option, Result, ◌==◌, nat_le, nat_lt}
+use Rattle.std.specs.Prelude.{ℕ, ◌+◌, Bool, false, cond, ◌||◌, Some, None, Ok, Err, Option, Result, ◌==◌, nat_le, nat_lt, slice_index_or}
 use Rattle.refusals.specs.declared.Tags.{Tags}
 use Rattle.refusals.specs.declared.Span.{Span}
 use Rattle.refusals.specs.declared.Refusal.{Refusal}
@@ -21,9 +21,7 @@ answered (Err r) = number r
 
 -- whether a tag is among those under way
 abbrev pub has : Tags → ℕ → Bool
-has g t =
-    cond (t == 0) g.t0 (cond (t == 1) g.t1 (cond (t == 2) g.t2 (cond (t == 3) g.t3
-    (cond (t == 4) g.t4 (cond (t == 5) g.t5 (cond (t == 6) g.t6 (cond (t == 7) g.t7 false)))))))
+has g t = slice_index_or g.flags t false
 
 -- 2 for no sector or more than 8, 3 beyond the last, else 0
 abbrev pub outside : (size from many : ℕ) → ℕ

@@ -5,7 +5,7 @@ ghost use Rattle.std.specs.Prelude.{◌≡◌, ℕ, ◌<◌, false};
 ghost use Rattle.refusals.specs.Refusals.{number, answered, has, outside, refusal};
 
 // Why a command is turned away.
-#[derive(Clone, Copy)]
+#[derive(Clone, Copy, PartialEq, Eq, Debug)]
 pub enum Refusal {
     Tag,
     Count,
@@ -14,12 +14,12 @@ pub enum Refusal {
     NotBuilt,
 }
 
-impl Refusal {
-    // The number that whoever asks is told.
-    pub fn code(self) -> u8
-        ensures { result ≡ number self }
-    {
-        match self {
+// The number that whoever asks is told.
+impl From<Refusal> for u8 {
+    ghost from_gives = { λ why n. n ≡ number why };
+
+    fn from(why: Refusal) -> u8 {
+        match why {
             Refusal::Tag => 1,
             Refusal::Count => 2,
             Refusal::Range => 3,
@@ -30,39 +30,29 @@ impl Refusal {
 }
 
 // Which of the eight tags name a command under way.
-#[derive(Clone, Copy)]
+#[derive(Clone, Copy, PartialEq, Eq, Debug)]
 pub struct Tags {
-    pub t0: bool,
-    pub t1: bool,
-    pub t2: bool,
-    pub t3: bool,
-    pub t4: bool,
-    pub t5: bool,
-    pub t6: bool,
-    pub t7: bool,
+    pub flags: [bool; 8],
 }
 
 impl Tags {
+    // No command is under way.
+    pub fn none() -> Self
+        ensures { (t : ℕ) → has result t ≡ false }
+    {
+        Tags { flags: [false; 8] }
+    }
+
     // Whether a tag names a command under way.
     pub fn has(&self, tag: u8) -> bool
         ensures { result ≡ has self.now tag }
     {
-        match tag {
-            0 => self.t0,
-            1 => self.t1,
-            2 => self.t2,
-            3 => self.t3,
-            4 => self.t4,
-            5 => self.t5,
-            6 => self.t6,
-            7 => self.t7,
-            _ => false,
-        }
+        self.flags.get(usize::from(tag)).copied().unwrap_or(false)
     }
 }
 
 // The sectors that a command names: so many, from one on.
-#[derive(Clone, Copy)]
+#[derive(Clone, Copy, PartialEq, Eq, Debug)]
 pub struct Span {
     pub from: u64,
     pub many: u32,
