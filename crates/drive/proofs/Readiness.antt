@@ -2,8 +2,6 @@
 use Rattle.std.proofs.Common.{◌≡◌, ℕ, ◌+◌, ◌-◌, ◌*◌, ◌≤◌, List, length, IfSome, Some, None, Ok, Option, sym, refl, ap, ◌∙◌, subst, arith}
 use Rattle.drive.specs.Nand.{Nand, Block, counted, put_block}
 use Rattle.drive.specs.ChipOps.{Holds, Programs, Erases}
-use Rattle.drive.specs.declared.chip_ops.Erased.{Erased}
-use Rattle.drive.specs.declared.chip_ops.Erased.TheVariants.{Ready as EraseReady, Failed as EraseFailed}
 use Rattle.drive.specs.declared.chip_ops.Programmed.{Programmed}
 use Rattle.drive.specs.declared.chip_ops.Programmed.TheVariants.{Next, Full, Failed as ProgramFailed}
 use Rattle.drive.specs.declared.chip_ops.Head.{Head}
@@ -102,12 +100,12 @@ program_frame n m h b ProgramFailed p = frame_put n m _ _ p
 pub program_holds : (n m : Nand) (h g : Head) (b : List ℕ) (x : Programmed) → x ≡ Next g → Programs n h b (Ok x) m → Holds m g
 program_holds n m h g b x e p = (subst (λ (y : Programmed). Programs n h b (Ok y) m) e p).3
 
-pub erase_frame : (n m : Nand) (k : ℕ) (x : Erased) → Erases n k (Ok x) m → (m.blocks ≡ n.blocks) × (m.pages ≡ n.pages) × (n.left ≤ m.left + 1)
-erase_frame n m k (EraseReady h) p = frame_put n m _ _ p.0
-erase_frame n m k EraseFailed p = frame_put n m _ _ p
+pub erase_frame : (n m : Nand) (k : ℕ) (x : Option Head) → Erases n k (Ok x) m → (m.blocks ≡ n.blocks) × (m.pages ≡ n.pages) × (n.left ≤ m.left + 1)
+erase_frame n m k (Some h) p = frame_put n m _ _ p.0
+erase_frame n m k None p = frame_put n m _ _ p
 
-pub erase_holds : (n m : Nand) (k : ℕ) (h : Head) (x : Erased) → x ≡ EraseReady h → Erases n k (Ok x) m → Holds m h
-erase_holds n m k h x e p = (subst (λ (y : Erased). Erases n k (Ok y) m) e p).3
+pub erase_holds : (n m : Nand) (k : ℕ) (h : Head) (x : Option Head) → x ≡ Some h → Erases n k (Ok x) m → Holds m h
+erase_holds n m k h x e p = (subst (λ (y : Option Head). Erases n k (Ok y) m) e p).3
 
 -- no head holds anything
 pub none_holds : (m : Nand) (o : Option Head) → o ≡ None → IfSome o (λ h. Holds m h)

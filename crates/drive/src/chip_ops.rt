@@ -15,13 +15,6 @@ pub struct Head {
     pub next: u32,
 }
 
-// A block that was erased, or went bad.
-#[derive(Drop)]
-pub enum Erased {
-    Ready(Head),
-    Failed,
-}
-
 // The same block after a page was programmed: it takes more, it is full, or it went bad.
 #[derive(Drop)]
 pub enum Programmed {
@@ -30,15 +23,15 @@ pub enum Programmed {
     Failed,
 }
 
-// Erases a block, which is then ready to be filled.
-pub fn erase_block<C: Chip>(c: &mut C, block: u32) -> Result<Erased, Gone>
+// Erases a block, which is then ready to be filled; none if it went bad.
+pub fn erase_block<C: Chip>(c: &mut C, block: u32) -> Result<Option<Head>, Gone>
     requires may { MayErase (C.nand c.old) block }
     requires some { 0 < (C.nand c.old).pages }
     ensures { Erases (C.nand c.old) block result (C.nand c.new) }
 {
     match c.erase(block) {
-        Answer::Fine => Ok(Erased::Ready(Head { block, next: 0 })),
-        Answer::Failed => Ok(Erased::Failed),
+        Answer::Fine => Ok(Some(Head { block, next: 0 })),
+        Answer::Failed => Ok(None),
         Answer::Dark => Err(Gone),
     }
 }
@@ -95,8 +88,5 @@ pub fn read_mark<C: Chip>(
 fn shown(page: &[u8]) -> Option<Mark>
     requires { length page.now ≡ 4352 }
 {
-    match codec::mark_of(page) {
-        Some(bytes) => from_bytes(&bytes),
-        None => None,
-    }
+    from_bytes(&codec::mark_of(page)?)
 }

@@ -3,7 +3,7 @@ ghost use Rattle.std.specs.Prelude.{◌≡◌, ℕ, ◌+◌, ◌<◌, ◌≤◌,
 ghost use Rattle.drive.specs.Nand.{Nand};
 ghost use Rattle.drive.specs.Journals.{Ready, Went, Free};
 
-use crate::chip_ops::{Erased, Head, Programmed, erase_block, program_next, read_mark};
+use crate::chip_ops::{Head, Programmed, erase_block, program_next, read_mark};
 use crate::room::{LIST, PAGE, Shape, is_free, number_of};
 use crate::{Chip, Gone};
 use record::marks::{Mark, RecordMark};
@@ -120,11 +120,11 @@ impl Journal {
         self.head = None;
         self.highest = self.highest.saturating_add(1);
         match erase_block(c, block)? {
-            Erased::Ready(head) => {
+            Some(head) => {
                 self.head = Some(head);
                 Ok(true)
             }
-            Erased::Failed => {
+            None => {
                 self.bad = self.bad.saturating_add(1);
                 Ok(false)
             }
