@@ -9,6 +9,7 @@ use Rattle.drive.specs.declared.Ask.{Ask}
 use Rattle.drive.specs.declared.Ask.TheVariants.{Write}
 use Rattle.drive.specs.declared.queue.Pending.{Pending}
 use Rattle.drive.specs.declared.queue.Queue.{Queue}
+use Rattle.drive.specs.declared.tag.Tag.{Tag}
 
 -- the command under a tag, if one is under way there
 abbrev pub slot_at : Queue → ℕ → Option Pending
@@ -51,8 +52,8 @@ abbrev pub verdict : Bool → ℕ → Seen → ℕ → Cmd → ℕ
 verdict worn size h t c = cond (why size h t c == 0) (cond (worn && changes c) 4 0) (why size h t c)
 
 -- by what is answered: the command stands in the queue, or it is refused and all is as before
-abbrev pub Settles : Result (Unit {0}) Refusal → Queue → ℕ → Ask → Queue → Type 0
-Settles (Ok u) q tag a p = (tag < 8) × Adds q tag a p
+abbrev pub Settles : Result Tag Refusal → Queue → ℕ → Ask → Queue → Type 0
+Settles (Ok t) q tag a p = (t.number ≡ tag) × (tag < 8) × Adds q tag a p
 Settles (Err why) q tag a p = p ≡ q
 
 -- the first n of some bytes stand at a place, and all else is as before

@@ -5,7 +5,7 @@ ghost use Rattle.std.specs.Prelude.{◌≡◌, ℕ, ◌+◌, ◌*◌, ◌<◌, �
 ghost use Rattle.drive.specs.Nand.{Nand, MayRead, MayProgram, MayErase, Reading, Programming, Erasing, lit, allowed};
 ghost use Rattle.drive.specs.Host.{Event, Explained, Up, Cut, Turned, Told};
 ghost use Rattle.drive.specs.Host.{Seen};
-ghost use Rattle.drive.specs.Queue.{Under, Adds, verdict, busy, slot_at};
+ghost use Rattle.drive.specs.Queue.{Under, Adds, Keeps, verdict, busy, slot_at};
 ghost use Rattle.drive.specs.Journals.{Sized};
 ghost use Rattle.drive.specs.Service.{Came, Standing, Kept, Turns, sectors_of};
 ghost use Rattle.drive.specs.Examples.{WhyTold, SixApart};
@@ -26,6 +26,7 @@ mod room;
 mod service;
 mod steps;
 mod survey;
+mod tag;
 pub mod ties;
 mod walk;
 
@@ -161,11 +162,12 @@ impl Drive {
         ensures told { (h : Seen) (bs : List ℕ) → Under self.old.queue h → result ≡ verdict self.old.journal.stuck (sectors_of self.old) h tag (cmd_of a bs) }
         ensures refused { (result ≢ 0) → (self.new ≡ self.old) × (room.new ≡ room.old) }
         ensures begins { result ≡ 0 → (tag < 8) × Adds self.old.queue tag a self.new.queue }
+        ensures stored { result ≡ 0 → Keeps room.old tag a bytes.now room.new }
         ensures keeps { self.new.journal ≡ self.old.journal }
     {
         let sectors = 5 * u64::from(self.journal.shape.total) / 8;
         match self.queue.accept(self.journal.stuck, sectors, tag, a) {
-            Ok(()) => {
+            Ok(tag) => {
                 keep_bytes(room, tag, a, bytes);
                 0
             }

@@ -1,5 +1,6 @@
 // The commands under way: which stands under each tag, how much of it is done, and which came first.
 ghost use Rattle.std.specs.Prelude.{◌≡◌, ℕ, ◌+◌, ◌*◌, ◌<◌, ◌≤◌, List, length, OnOk};
+ghost use Rattle.std.specs.Option.{option_map};
 ghost use Rattle.refusals.specs.Refusals.{answered, has};
 ghost use Rattle.drive.specs.Host.{Seen, changes};
 ghost use Rattle.drive.specs.Promise.{cmd_of};
@@ -9,6 +10,7 @@ ghost use Rattle.drive.specs.Service.{SameAsks};
 
 use crate::Ask;
 use crate::admission::admit;
+use crate::tag::Tag;
 use refusals::{Refusal, Tags};
 
 // A command under way, how many of its sectors are done, and how many commands came before it.
@@ -45,11 +47,10 @@ impl Queue {
     }
 
     // Puts a command under a tag, or none.
-    pub fn put(&mut self, tag: u8, slot: Option<Pending>)
-        requires { tag < 8 }
-        ensures { Puts self.old tag slot self.new }
+    fn put(&mut self, tag: Tag, slot: Option<Pending>)
+        ensures { Puts self.old tag.number slot self.new }
     {
-        self.slots[usize::from(tag)] = slot;
+        self.slots[usize::from(tag.number)] = slot;
     }
 
     // Which tags name a command under way.
@@ -62,9 +63,8 @@ impl Queue {
     }
 
     // A command comes under a tag, none of it done.
-    pub fn add(&mut self, tag: u8, ask: Ask)
-        requires { tag < 8 }
-        ensures { Adds self.old tag ask self.new }
+    fn add(&mut self, tag: Tag, ask: Ask)
+        ensures { Adds self.old tag.number ask self.new }
     {
         let command = Pending {
             ask,
@@ -76,9 +76,8 @@ impl Queue {
     }
 
     // One more sector of a command is taken.
-    pub fn advance(&mut self, tag: u8, pending: Pending)
-        requires tagged { tag < 8 }
-        requires was { slot_at self.old tag ≡ Some pending }
+    pub fn advance(&mut self, tag: Tag, pending: Pending)
+        requires { slot_at self.old tag.number ≡ Some pending }
         ensures { SameAsks self.old self.new }
     {
         let taken = pending.taken.saturating_add(1);
@@ -86,15 +85,14 @@ impl Queue {
     }
 
     // The command under a tag is done.
-    pub fn end(&mut self, tag: u8)
-        requires { tag < 8 }
-        ensures { Puts self.old tag None self.new }
+    pub fn end(&mut self, tag: Tag)
+        ensures { Puts self.old tag.number None self.new }
     {
         self.put(tag, None);
     }
 
-    // The tag of the command that came first; of two that came at once the lower tag.
-    pub fn front(&self) -> Option<u8>
+    // The number of the tag whose command came first; of two that came at once the lower.
+    fn first(&self) -> Option<u8>
         ensures { First self.now 8 result }
     {
         (0..8)
@@ -103,28 +101,27 @@ impl Queue {
             .map(|(_, tag)| tag)
     }
 
-    // Whether a command may begin; the first reason that applies.
-    fn judge(&self, worn_out: bool, sectors: u64, tag: u8, a: Ask) -> Result<(), Refusal>
-        ensures told { (h : Seen) (bs : List ℕ) → Under self.now h → answered result ≡ verdict worn_out sectors h tag (cmd_of a bs) }
-        ensures tagged { answered result ≡ 0 → tag < 8 }
-        ensures few { answered result ≡ 0 → many_of a ≤ 8 }
+    // The tag of the command that came first.
+    pub fn front(&self) -> Option<Tag>
+        ensures { First self.now 8 (option_map (λ t. t.number) result) }
+    {
+        let number = self.first()?;
+        Some(Tag { number })
+    }
+
+    // Takes a command in under its tag, if it may begin; else all is as before.
+    pub fn accept(&mut self, worn_out: bool, sectors: u64, tag: u8, a: Ask) -> Result<Tag, Refusal>
+        ensures told { (h : Seen) (bs : List ℕ) → Under self.old h → answered result ≡ verdict worn_out sectors h tag (cmd_of a bs) }
+        ensures settles { Settles result self.old tag a self.new }
+        ensures few { OnOk result (many_of a ≤ 8) }
     {
         admit(sectors, &self.tags(), tag, a)?;
         if worn_out && changes(a) {
             return Err(Refusal::WornOut);
         }
-        Ok(())
-    }
-
-    // Takes a command in, if it may begin; else all is as before.
-    pub fn accept(&mut self, worn_out: bool, sectors: u64, tag: u8, a: Ask) -> Result<(), Refusal>
-        ensures told { (h : Seen) (bs : List ℕ) → Under self.old h → answered result ≡ verdict worn_out sectors h tag (cmd_of a bs) }
-        ensures settles { Settles result self.old tag a self.new }
-        ensures few { OnOk result (many_of a ≤ 8) }
-    {
-        self.judge(worn_out, sectors, tag, a)?;
+        let tag = Tag { number: tag };
         self.add(tag, a);
-        Ok(())
+        Ok(tag)
     }
 }
 
@@ -138,14 +135,13 @@ fn changes(a: Ask) -> bool
 
 // Keeps what a command brings: of a write its sectors, in the part of the room that belongs to its tag.
 #[tactic(auto, using(std::proofs::lemmas::Slice::overwrites))]
-pub fn keep_bytes(room: &mut [u8], tag: u8, a: Ask, bytes: &[u8])
-    requires tagged { tag < 8 }
+pub fn keep_bytes(room: &mut [u8], tag: Tag, a: Ask, bytes: &[u8])
     requires few { many_of a ≤ 8 }
     requires lent { (262144 ≤ length room.old) × (32768 ≤ length bytes.now) }
-    ensures { Keeps room.old tag a bytes.now room.new }
+    ensures { Keeps room.old tag.number a bytes.now room.new }
 {
     if let Ask::Write { many, .. } = a {
-        let at = 32768 * usize::from(tag);
+        let at = 32768 * usize::from(tag.number);
         let len = 4096 * many as usize;
         room[at..at + len].copy_from_slice(&bytes[..len]);
     }

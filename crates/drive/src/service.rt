@@ -82,14 +82,14 @@ impl Drive {
         let Some(tag) = self.queue.front() else {
             return Ok(Served::Idle);
         };
-        let Some(pending) = self.queue.slot(tag) else {
+        let Some(pending) = self.queue.slot(tag.number) else {
             return Ok(Served::Idle);
         };
-        match self.journal.step(c, room, out, tag, pending)? {
+        match self.journal.step(c, room, out, tag.number, pending)? {
             Progress::Ended => {
                 self.queue.end(tag);
                 Ok(Served::Ended(Ended {
-                    tag,
+                    tag: tag.number,
                     ask: pending.ask,
                 }))
             }

@@ -15,7 +15,7 @@ number WornOut = 4
 number NotBuilt = 5
 
 -- the same of an answer, 0 where nothing is refused
-abbrev pub answered : Result (Unit {0}) Refusal → ℕ
+abbrev pub answered : {A : Type 0} → Result A Refusal → ℕ
 answered (Ok x) = 0
 answered (Err r) = number r
 

@@ -2,7 +2,7 @@ use Rattle.std.proofs.Common.{◌≡◌, Err, ap, ◌∙◌, rules}
 use Rattle.refusals.specs.Refusals.{answered}
 use Rattle.drive.specs.Promise.{cmd_of}
 use Rattle.drive.proofs.Verdicts.{names, turned_away}
-use Rattle.drive.proofs.queue.Queue.judge.Goals as goal
+use Rattle.drive.proofs.queue.Queue.accept.Goals as goal
 
 pub returns-in_err-admit-clause-told : goal.returns-in_err-admit-clause-told
 returns-in_err-admit-clause-told c h bs u =

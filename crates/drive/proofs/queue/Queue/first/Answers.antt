@@ -4,7 +4,7 @@ use Rattle.std.proofs.lemmas.Iterator.{YieldsList-from_range}
 use Rattle.std.proofs.lemmas.Iterator.Consumers.{YieldsList-from_filter_map, reduce_from_yields_List}
 use Rattle.drive.specs.Queue.{First}
 use Rattle.drive.proofs.Fronts.{arrival, earlier, least_first}
-use Rattle.drive.proofs.queue.Queue.front.Goals as goal
+use Rattle.drive.proofs.queue.Queue.first.Goals as goal
 
 pub returns : goal.returns
 returns c =
