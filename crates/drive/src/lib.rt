@@ -151,7 +151,7 @@ pub fn open<C: Chip>(c: &mut C, room: &mut [u8]) -> Result<Drive, Gone>
     journal.allow(room, 0);
     Ok(Drive {
         journal,
-        queue: Queue::new(),
+        queue: Queue::default(),
     })
 }
 

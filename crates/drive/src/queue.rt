@@ -21,24 +21,14 @@ pub struct Pending {
     pub since: u64,
 }
 
-// The commands under way by tag, and how many have come so far.
-#[derive(Drop)]
+// The commands under way by tag, and how many have come so far; by default none.
+#[derive(Default, Drop)]
 pub struct Queue {
     pub slots: [Option<Pending>; 8],
     pub arrivals: u64,
 }
 
 impl Queue {
-    // No command is under way.
-    pub fn new() -> Self
-        ensures { (((t : ℕ) → slot_at result t ≡ None)) × (result.arrivals ≡ 0) }
-    {
-        Queue {
-            slots: [None; 8],
-            arrivals: 0,
-        }
-    }
-
     // The command under a tag, if one is under way there.
     pub fn slot(&self, tag: u8) -> Option<Pending>
         ensures { result ≡ slot_at self.now tag }
