@@ -78,18 +78,21 @@ mid_other i k xs ys h l o (inr b) = grind (arith, places)
 pub mid_here : (i k : ℕ) (xs ys : List ℕ) → i ≤ length xs → length ys ≡ k → take k (drop i (put_mid i k xs ys)) ≡ ys
 mid_here i k xs ys h l = sym (drop-take i k (put_mid i k xs ys)) ∙ ap (drop i) (take-put_mid i k xs ys (i + k) (omega arith) h) ∙ drop_at (take i xs) ys i (length-take-le i xs h)
 
--- n bytes at p, which is i, are written over by those of v
-pub written : (n i p k : ℕ) (xs ys : List ℕ) (v : ℕ) → i + suc n ≤ length xs → p ≡ i → k ≡ suc n → ys ≡ little (suc n) v → Written (suc n) i v xs (put_mid p k xs ys)
+-- n bytes at i are written over by those of v
+pub written : (n i : ℕ) (xs ys : List ℕ) (v : ℕ) → 0 < n → i + n ≤ length xs → ys ≡ little n v → Written n i v xs (put_mid i (i + n - i) xs ys)
 unfolding value_at
-written n i p k xs ys v h at e is =
+written zero i xs ys v some h is = absurd (omega arith)
+written (suc n) i xs ys v some h is =
+    let k = i + suc n - i in
+    let e : k ≡ suc n = omega arith in
     let l : length ys ≡ k = ap length is ∙ length-little (suc n) v ∙ sym e in
-    let low : p ≤ length xs = omega arith in
-    let move : (a b : ℕ) → (b + a ≤ i) ⊎ (i + suc n ≤ b) → (b + a ≤ p) ⊎ (p + k ≤ b) = λ a b o. elim o [ inl x ↦ inl (omega arith) | inr x ↦ inr (omega arith) ] in
+    let low : i ≤ length xs = omega arith in
+    let side : (j : ℕ) → i + suc n ≤ j → i + k ≤ j = λ j b. omega arith in
     record {
-      here = ap value (ap₂ (λ m j. take m (drop j (put_mid p k xs ys))) (sym e) (sym at) ∙ mid_here p k xs ys low l ∙ is) ∙ value-little n v;
-      elsewhere = λ m j o. ap value (mid_kept p k xs ys low l m j (move m j o));
-      others = λ b o. mid_other p k xs ys low l b (elim o [ inl x ↦ inl (omega arith) | inr x ↦ inr (omega arith) ]);
-      front = take-put_mid p k xs ys (i + suc n) (omega arith) low ∙ ap₂ (λ m z. take m xs ++ z) at is;
+      here = ap (λ m. value (take m (drop i (put_mid i k xs ys)))) (sym e) ∙ ap value (mid_here i k xs ys low l ∙ is) ∙ value-little n v;
+      elsewhere = λ m j o. ap value (mid_kept i k xs ys low l m j (elim o [ inl b ↦ inl b | inr b ↦ inr (side j b) ]));
+      others = λ j o. mid_other i k xs ys low l j (elim o [ inl b ↦ inl b | inr b ↦ inr (side j b) ]);
+      front = take-put_mid i k xs ys (i + suc n) (omega arith) low ∙ ap (λ z. take i xs ++ z) is;
     }
 
 -- ---- the bytes of the three widths

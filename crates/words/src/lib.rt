@@ -1,61 +1,89 @@
 // Unsigned integers in lent bytes, the lowest byte first.
 #![tactic(auto)]
 
-ghost use Rattle.std.specs.Prelude.{◌≡◌, ℕ, ◌+◌, ◌*◌, ◌≤◌, length, ◌≢◌};
-ghost use Rattle.words.specs.Words.{value_at, word_at, Written};
+ghost use Rattle.std.specs.Prelude.{◌≡◌, ℕ, ◌+◌, ◌*◌, ◌≤◌, ◌<◌, length, ◌≢◌};
+ghost use Rattle.std.proofs.Common.{rules};
+ghost use Rattle.words.specs.Words.{value, little, value_at, word_at, Written};
 
-// The u16 that stands at `at`.
-pub fn read_u16(s: &[u8], at: usize) -> u16
-    requires { at + 2 ≤ length s.now }
-    ensures { result ≡ value_at 2 s.now at }
-{
-    let mut bytes = [0u8; 2];
-    bytes.copy_from_slice(&s[at..at + 2]);
-    u16::from_le_bytes(bytes)
+// An unsigned integer of `N` bytes.
+pub trait Unsigned<const N: usize>: Copy {
+    // The number that a value is.
+    ghost number: { Self → ℕ };
+
+    // The value that these bytes say.
+    fn from_le_bytes(bytes: [u8; N]) -> Self
+        ensures { number result ≡ value bytes.entry };
+
+    // The bytes that say a value.
+    fn to_le_bytes(self) -> [u8; N]
+        ensures { result ≡ little N (number self) };
+
+    // It has a byte at least.
+    ghost nonempty: { 0 < N };
 }
 
-// The u32 that stands at `at`.
-pub fn read_u32(s: &[u8], at: usize) -> u32
-    requires { at + 4 ≤ length s.now }
-    ensures { result ≡ value_at 4 s.now at }
-{
-    let mut bytes = [0u8; 4];
-    bytes.copy_from_slice(&s[at..at + 4]);
-    u32::from_le_bytes(bytes)
+impl Unsigned<2> for u16 {
+    ghost number = { λ x. x };
+
+    ghost nonempty = { Prim.search rules };
+
+    fn from_le_bytes(bytes: [u8; 2]) -> u16
+        ensures { result ≡ value bytes }
+    {
+        u16::from_le_bytes(bytes)
+    }
+
+    fn to_le_bytes(self) -> [u8; 2] {
+        u16::to_le_bytes(self)
+    }
 }
 
-// The u64 that stands at `at`.
-pub fn read_u64(s: &[u8], at: usize) -> u64
-    requires { at + 8 ≤ length s.now }
-    ensures { result ≡ value_at 8 s.now at }
-{
-    let mut bytes = [0u8; 8];
-    bytes.copy_from_slice(&s[at..at + 8]);
-    u64::from_le_bytes(bytes)
+impl Unsigned<4> for u32 {
+    ghost number = { λ x. x };
+
+    ghost nonempty = { Prim.search rules };
+
+    fn from_le_bytes(bytes: [u8; 4]) -> u32
+        ensures { result ≡ value bytes }
+    {
+        u32::from_le_bytes(bytes)
+    }
+
+    fn to_le_bytes(self) -> [u8; 4] {
+        u32::to_le_bytes(self)
+    }
 }
 
-// Writes a u16 at `at`.
-pub fn write_u16(s: &mut [u8], at: usize, v: u16)
-    requires { at + 2 ≤ length s.old }
-    ensures { Written 2 at v s.old s.new }
-{
-    s[at..at + 2].copy_from_slice(&v.to_le_bytes());
+impl Unsigned<8> for u64 {
+    ghost number = { λ x. x };
+
+    ghost nonempty = { Prim.search rules };
+
+    fn from_le_bytes(bytes: [u8; 8]) -> u64
+        ensures { result ≡ value bytes }
+    {
+        u64::from_le_bytes(bytes)
+    }
+
+    fn to_le_bytes(self) -> [u8; 8] {
+        u64::to_le_bytes(self)
+    }
 }
 
-// Writes a u32 at `at`.
-pub fn write_u32(s: &mut [u8], at: usize, v: u32)
-    requires { at + 4 ≤ length s.old }
-    ensures { Written 4 at v s.old s.new }
+// The integer that stands at `at`.
+pub fn read<T: Unsigned<N>, const N: usize>(s: &[u8], at: usize) -> T
+    requires { at + N ≤ length s.now }
+    ensures { T.number result ≡ value_at N s.now at }
 {
-    s[at..at + 4].copy_from_slice(&v.to_le_bytes());
+    T::from_le_bytes(s[at..at + N].try_into().unwrap())
 }
 
-// Writes a u64 at `at`.
-pub fn write_u64(s: &mut [u8], at: usize, v: u64)
-    requires { at + 8 ≤ length s.old }
-    ensures { Written 8 at v s.old s.new }
+// Writes an integer at `at`.
+pub fn write<T: Unsigned<N>, const N: usize>(s: &mut [u8], at: usize, v: T)
+    requires { at + N ≤ length s.old }
+    ensures { Written N at (T.number v) s.old s.new }
 {
-    s[at..at + 8].copy_from_slice(&v.to_le_bytes());
+    s[at..at + N].copy_from_slice(&v.to_le_bytes());
 }
 
 // The word with the index `k`: the u64 at 8 * k.
@@ -63,7 +91,7 @@ pub fn word(s: &[u8], k: usize) -> u64
     requires { 8 * k + 8 ≤ length s.now }
     ensures { result ≡ word_at s.now k }
 {
-    read_u64(s, 8 * k)
+    read(s, 8 * k)
 }
 
 // Writes the word with the index `k`, and no other.
@@ -72,5 +100,5 @@ pub fn set_word(s: &mut [u8], k: usize, v: u64)
     ensures here { word_at s.new k ≡ v }
     ensures others { (j : ℕ) → (j ≢ k) → word_at s.new j ≡ word_at s.old j }
 {
-    write_u64(s, 8 * k, v);
+    write(s, 8 * k, v);
 }

@@ -1,8 +1,0 @@
-use Rattle.std.proofs.Common.{ap, ◌∙◌, rules}
-use Rattle.words.specs.Words.{value, value_at}
-use Rattle.words.proofs.Words.{part, value_4}
-use Rattle.words.proofs.read_u32.Goals as goal
-
-pub returns : goal.returns
-unfolding value_at
-returns c = c.from_le_bytes.ensures ∙ value_4 _ c.copy_from_slice.ensures.len ∙ ap value (part c.args.at 4 c.args.s.now c.copy_from_slice.new.self (search rules))
