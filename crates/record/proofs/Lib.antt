@@ -1,4 +1,5 @@
 pub mod Decode
+pub mod Refused
 pub mod Rows
 pub mod MarkBytes
 pub mod HeaderBytes

@@ -3,121 +3,95 @@ ghost use Rattle.std.specs.Prelude.{◌≡◌};
 ghost use Rattle.record.specs.Decoding.{Decoded};
 ghost use Rattle.record.specs.Contents.{flag_of, seal_flag_of, tag_of};
 
+use crate::errors::Malformed;
 use crate::marks::{Content, Origin, SealOrigin};
-use crate::numbers::{SectorNumber, TableNumber};
-use crate::tags::Tag;
+use crate::tags::{Kind, Tag};
 
-fn flag(origin: Origin) -> u8
-    ensures { result ≡ flag_of origin }
-{
-    match origin {
-        Origin::Fresh => 0,
-        Origin::Copied => 1,
+impl TryFrom<u8> for Origin {
+    type Error = Malformed;
+
+    ghost try_from_gives = { λ n r. Decoded flag_of n r };
+
+    fn try_from(flag: u8) -> Result<Origin, Malformed> {
+        match flag {
+            0 => Ok(Origin::Fresh),
+            1 => Ok(Origin::Copied),
+            _ => Err(Malformed),
+        }
     }
 }
 
-fn seal_flag(origin: SealOrigin) -> u8
-    ensures { result ≡ seal_flag_of origin }
-{
-    match origin {
-        SealOrigin::Flush => 0,
-        SealOrigin::Recovery => 2,
+impl TryFrom<u8> for SealOrigin {
+    type Error = Malformed;
+
+    ghost try_from_gives = { λ n r. Decoded seal_flag_of n r };
+
+    fn try_from(flag: u8) -> Result<SealOrigin, Malformed> {
+        match flag {
+            0 => Ok(SealOrigin::Flush),
+            2 => Ok(SealOrigin::Recovery),
+            _ => Err(Malformed),
+        }
     }
 }
 
-fn origin_of(flag: u8) -> Option<Origin>
-    ensures { Decoded flag_of flag result }
-{
-    match flag {
-        0 => Some(Origin::Fresh),
-        1 => Some(Origin::Copied),
-        _ => None,
+impl From<Content> for Tag {
+    ghost from_gives = { λ c t. t ≡ tag_of c };
+
+    fn from(content: Content) -> Tag {
+        match content {
+            Content::Data { origin, sector } => Tag {
+                flag: origin as u8,
+                place: sector.number,
+                ..Tag::bare(Kind::Data)
+            },
+            Content::Table { origin, page } => Tag {
+                flag: origin as u8,
+                place: page.number,
+                ..Tag::bare(Kind::Table)
+            },
+            Content::Seal { origin } => Tag {
+                flag: origin as u8,
+                ..Tag::bare(Kind::Seal)
+            },
+        }
     }
 }
 
-fn seal_origin_of(flag: u8) -> Option<SealOrigin>
-    ensures { Decoded seal_flag_of flag result }
-{
-    match flag {
-        0 => Some(SealOrigin::Flush),
-        2 => Some(SealOrigin::Recovery),
-        _ => None,
-    }
-}
+impl TryFrom<Tag> for Content {
+    type Error = Malformed;
 
-// The numbers that stand for a content.
-pub fn tag_of(content: Content) -> Tag
-    ensures { result ≡ tag_of content }
-{
-    match content {
-        Content::Data { origin, sector } => Tag {
-            kind: 2,
-            flag: flag(origin),
-            commit: 0,
-            place: sector.number,
-        },
-        Content::Table { origin, page } => Tag {
-            kind: 3,
-            flag: flag(origin),
-            commit: 0,
-            place: page.number,
-        },
-        Content::Seal { origin } => Tag {
-            kind: 4,
-            flag: seal_flag(origin),
-            commit: 0,
-            place: 0,
-        },
-    }
-}
+    ghost try_from_gives = { λ t r. Decoded tag_of t r };
 
-fn data_of(tag: Tag) -> Option<Content>
-    requires { tag.kind ≡ 2 }
-    ensures { Decoded tag_of tag result }
-{
-    let origin = origin_of(tag.flag)?;
-    if tag.commit != 0 || tag.place >= 10_485_760 {
-        return None;
-    }
-    Some(Content::Data {
-        origin,
-        sector: SectorNumber { number: tag.place },
-    })
-}
-
-fn table_of(tag: Tag) -> Option<Content>
-    requires { tag.kind ≡ 3 }
-    ensures { Decoded tag_of tag result }
-{
-    let origin = origin_of(tag.flag)?;
-    if tag.commit != 0 || tag.place >= 10_240 {
-        return None;
-    }
-    Some(Content::Table {
-        origin,
-        page: TableNumber { number: tag.place },
-    })
-}
-
-fn seal_of(tag: Tag) -> Option<Content>
-    requires { tag.kind ≡ 4 }
-    ensures { Decoded tag_of tag result }
-{
-    let origin = seal_origin_of(tag.flag)?;
-    if tag.commit != 0 || tag.place != 0 {
-        return None;
-    }
-    Some(Content::Seal { origin })
-}
-
-// The content that the numbers stand for, if any.
-pub fn content_of(tag: Tag) -> Option<Content>
-    ensures { Decoded tag_of tag result }
-{
-    match tag.kind {
-        2 => data_of(tag),
-        3 => table_of(tag),
-        4 => seal_of(tag),
-        _ => None,
+    fn try_from(tag: Tag) -> Result<Content, Malformed> {
+        match tag {
+            Tag {
+                kind: Kind::Data,
+                flag,
+                commit: 0,
+                place,
+            } => Ok(Content::Data {
+                origin: flag.try_into()?,
+                sector: place.try_into()?,
+            }),
+            Tag {
+                kind: Kind::Table,
+                flag,
+                commit: 0,
+                place,
+            } => Ok(Content::Table {
+                origin: flag.try_into()?,
+                page: place.try_into()?,
+            }),
+            Tag {
+                kind: Kind::Seal,
+                flag,
+                commit: 0,
+                place: 0,
+            } => Ok(Content::Seal {
+                origin: flag.try_into()?,
+            }),
+            _ => Err(Malformed),
+        }
     }
 }

@@ -1,78 +1,57 @@
 // The data of a header page: a fixed part, and an entry for each record of the predecessor that counts.
+// What is asked of a page's length stands with each function: a type for it would be two, to read and to write, made anew for each call.
 ghost use Rattle.std.specs.Prelude.{◌≡◌, ℕ, ◌+◌, ◌*◌, ◌≤◌, length, take, drop, ◌≢◌};
 ghost use Rattle.record.specs.Decoding.{Decoded};
 ghost use Rattle.record.specs.Headers.{data_fields, header_field_bytes, header_bytes, entry_at, content_bytes};
 
-use crate::contents::{content_of, tag_of};
+use crate::errors::Malformed;
 use crate::headers::{HeaderData, Predecessor};
-use crate::layout::{read_tag, write_tag};
+use crate::layout::{block_field, block_of, read_tag, write_tag};
 use crate::marks::Content;
-use crate::numbers::{BlockIndex, BlockNumber, RecordCount, RecordIndex};
-use crate::tags::HeaderFields;
-use words::{read_u32, read_u64, write_u32, write_u64};
+use crate::numbers::{BlockNumber, RecordIndex};
+use crate::tags::{HeaderFields, Tag};
+use words::{read, write};
 
-// Stands for no predecessor.
-const NO_BLOCK: u32 = 0xffff_ffff;
+impl From<HeaderData> for HeaderFields {
+    ghost from_gives = { λ h f. f ≡ data_fields h };
 
-fn fields_of(header: HeaderData) -> HeaderFields
-    ensures { result ≡ data_fields header }
-{
-    let (block, number, records) = match header.predecessor {
-        Some(p) => (p.block.index, p.number.number, p.records.count),
-        None => (NO_BLOCK, 0, 0),
-    };
-    HeaderFields {
-        first: header.first.index,
-        number,
-        tail: header.tail.index,
-        keep: header.keep.index,
-        block,
-        records,
+    fn from(header: HeaderData) -> HeaderFields {
+        let (block, number, records) = match header.predecessor {
+            Some(p) => (Some(p.block), p.number.number, p.records.count),
+            None => (None, 0, 0),
+        };
+        HeaderFields {
+            first: header.first.index,
+            number,
+            tail: header.tail.index,
+            keep: header.keep.index,
+            block: block_field(block),
+            records,
+        }
     }
 }
 
-fn first_header_of(f: HeaderFields) -> Option<HeaderData>
-    requires { f.block ≡ 0xffff_ffff }
-    ensures { Decoded data_fields f result }
-{
-    if f.number != 0 || f.records != 0 {
-        return None;
-    }
-    Some(HeaderData {
-        first: RecordIndex { index: f.first },
-        predecessor: None,
-        tail: RecordIndex { index: f.tail },
-        keep: RecordIndex { index: f.keep },
-    })
-}
+impl TryFrom<HeaderFields> for HeaderData {
+    type Error = Malformed;
 
-fn later_header_of(f: HeaderFields) -> Option<HeaderData>
-    requires { f.block ≢ 0xffff_ffff }
-    ensures { Decoded data_fields f result }
-{
-    if f.block >= 65_536 || f.records >= 256 {
-        return None;
-    }
-    let predecessor = Predecessor {
-        block: BlockIndex { index: f.block },
-        number: BlockNumber { number: f.number },
-        records: RecordCount { count: f.records },
-    };
-    Some(HeaderData {
-        first: RecordIndex { index: f.first },
-        predecessor: Some(predecessor),
-        tail: RecordIndex { index: f.tail },
-        keep: RecordIndex { index: f.keep },
-    })
-}
+    ghost try_from_gives = { λ f r. Decoded data_fields f r };
 
-fn header_of(f: HeaderFields) -> Option<HeaderData>
-    ensures { Decoded data_fields f result }
-{
-    if f.block == NO_BLOCK {
-        first_header_of(f)
-    } else {
-        later_header_of(f)
+    fn try_from(f: HeaderFields) -> Result<HeaderData, Malformed> {
+        let predecessor = match block_of(f.block)? {
+            Some(block) => Some(Predecessor {
+                block,
+                number: BlockNumber { number: f.number },
+                records: f.records.try_into()?,
+            }),
+            None if f.number == 0 && f.records == 0 => None,
+            None => return Err(Malformed),
+        };
+        Ok(HeaderData {
+            first: RecordIndex { index: f.first },
+            predecessor,
+            tail: RecordIndex { index: f.tail },
+            keep: RecordIndex { index: f.keep },
+        })
     }
 }
 
@@ -80,12 +59,12 @@ fn write_fields(f: HeaderFields, out: &mut [u8])
     requires { length out.old ≡ 40 }
     ensures { out.new ≡ header_field_bytes f }
 {
-    write_u64(out, 0, f.first);
-    write_u64(out, 8, f.number);
-    write_u64(out, 16, f.tail);
-    write_u64(out, 24, f.keep);
-    write_u32(out, 32, f.block);
-    write_u32(out, 36, f.records);
+    write(out, 0, f.first);
+    write(out, 8, f.number);
+    write(out, 16, f.tail);
+    write(out, 24, f.keep);
+    write(out, 32, f.block);
+    write(out, 36, f.records);
 }
 
 fn read_fields(bytes: &[u8]) -> HeaderFields
@@ -93,12 +72,12 @@ fn read_fields(bytes: &[u8]) -> HeaderFields
     ensures { bytes.now ≡ header_field_bytes result }
 {
     HeaderFields {
-        first: read_u64(bytes, 0),
-        number: read_u64(bytes, 8),
-        tail: read_u64(bytes, 16),
-        keep: read_u64(bytes, 24),
-        block: read_u32(bytes, 32),
-        records: read_u32(bytes, 36),
+        first: read(bytes, 0),
+        number: read(bytes, 8),
+        tail: read(bytes, 16),
+        keep: read(bytes, 24),
+        block: read(bytes, 32),
+        records: read(bytes, 36),
     }
 }
 
@@ -108,15 +87,15 @@ pub fn write_header(page: &mut [u8], header: HeaderData)
     ensures here { take 40 page.new ≡ header_bytes header }
     ensures rest { drop 40 page.new ≡ drop 40 page.old }
 {
-    write_fields(fields_of(header), &mut page[0..40]);
+    write_fields(HeaderFields::from(header), &mut page[0..40]);
 }
 
-// The fixed part of a header page's data, or None where the bytes are those of no header.
-pub fn read_header(page: &[u8]) -> Option<HeaderData>
+// The fixed part of a header page's data.
+pub fn read_header(page: &[u8]) -> Result<HeaderData, Malformed>
     requires { 40 ≤ length page.now }
     ensures { Decoded header_bytes (take 40 page.now) result }
 {
-    header_of(read_fields(&page[0..40]))
+    HeaderData::try_from(read_fields(&page[0..40]))
 }
 
 // Writes entry `i`, and leaves the fixed part and the other entries.
@@ -127,14 +106,14 @@ pub fn write_entry(page: &mut [u8], i: usize, content: Content)
     ensures fixed { take 40 page.new ≡ take 40 page.old }
 {
     let at = 40 + 8 * i;
-    write_tag(tag_of(content), &mut page[at..at + 8]);
+    write_tag(Tag::from(content), &mut page[at..at + 8]);
 }
 
-// Entry `i`, or None where the bytes are those of no entry.
-pub fn read_entry(page: &[u8], i: usize) -> Option<Content>
+// Entry `i`.
+pub fn read_entry(page: &[u8], i: usize) -> Result<Content, Malformed>
     requires { 40 + 8 * i + 8 ≤ length page.now }
     ensures { Decoded content_bytes (entry_at page.now i) result }
 {
     let at = 40 + 8 * i;
-    content_of(read_tag(&page[at..at + 8]))
+    Content::try_from(read_tag(&page[at..at + 8])?)
 }

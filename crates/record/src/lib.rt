@@ -3,6 +3,7 @@
 
 pub mod contents;
 pub mod entries;
+pub mod errors;
 pub mod headers;
 pub mod laws;
 pub mod layout;

@@ -4,15 +4,15 @@ use crate::numbers::{BlockIndex, BlockNumber, PageIndex, RecordIndex, SectorNumb
 // Where a record comes from: it is new, or was copied from the tail of the log.
 #[derive(Clone, Copy, PartialEq, Eq)]
 pub enum Origin {
-    Fresh,
-    Copied,
+    Fresh = 0,
+    Copied = 1,
 }
 
 // Where a seal comes from: a flush, or the recovery after a power loss.
 #[derive(Clone, Copy, PartialEq, Eq)]
 pub enum SealOrigin {
-    Flush,
-    Recovery,
+    Flush = 0,
+    Recovery = 2,
 }
 
 // The first page of a block of the log.

@@ -1,12 +1,58 @@
 // Fields as they stand in bytes.
+ghost use Rattle.std.specs.Prelude.{◌≡◌};
+ghost use Rattle.record.specs.Decoding.{Decoded};
+ghost use Rattle.record.specs.Contents.{code_of, bare};
+
+use crate::errors::Malformed;
+
+// What a page is: a header, a record of one of three kinds of content, or a void.
+#[derive(Clone, Copy, PartialEq, Eq)]
+pub enum Kind {
+    Header = 1,
+    Data = 2,
+    Table = 3,
+    Seal = 4,
+    Void = 5,
+}
+
+impl TryFrom<u8> for Kind {
+    type Error = Malformed;
+
+    ghost try_from_gives = { λ n r. Decoded code_of n r };
+
+    fn try_from(code: u8) -> Result<Kind, Malformed> {
+        match code {
+            1 => Ok(Kind::Header),
+            2 => Ok(Kind::Data),
+            3 => Ok(Kind::Table),
+            4 => Ok(Kind::Seal),
+            5 => Ok(Kind::Void),
+            _ => Err(Malformed),
+        }
+    }
+}
 
 // The first 8 bytes of a mark.
 #[derive(Clone, Copy, PartialEq, Eq)]
 pub struct Tag {
-    pub kind: u8,
+    pub kind: Kind,
     pub flag: u8,
     pub commit: u16,
     pub place: u32,
+}
+
+impl Tag {
+    // A tag with no more than its kind.
+    pub const fn bare(kind: Kind) -> Tag
+        ensures { result ≡ bare kind }
+    {
+        Tag {
+            kind,
+            flag: 0,
+            commit: 0,
+            place: 0,
+        }
+    }
 }
 
 // The 32 bytes of a mark; a kind leaves those that it has no use for at 0.

@@ -17,13 +17,13 @@ fn seal_mark_bytes(rt: HostRuntime) {
     to_bytes(Mark::Record(mark), &mut bytes);
     assert!(rt; bytes[0] == 4 && bytes[1] == 2 && bytes[8] == 2 && bytes[9] == 1);
     assert!(rt; bytes[16] == 3 && bytes[28] == 1);
-    assert!(rt; from_bytes(&bytes).is_some());
+    assert!(rt; from_bytes(&bytes).is_ok());
     bytes[24] = 1;
-    assert!(rt; from_bytes(&bytes).is_none());
+    assert!(rt; from_bytes(&bytes).is_err());
 }
 
 // A blank page has no entries.
 #[test]
 fn blank_entry(rt: HostRuntime) {
-    assert!(rt; read_entry(&[255u8; 4096], 254).is_none());
+    assert!(rt; read_entry(&[255u8; 4096], 254).is_err());
 }

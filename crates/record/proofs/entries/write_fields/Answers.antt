@@ -4,5 +4,5 @@ use Rattle.record.proofs.entries.write_fields.Goals as goal
 
 pub returns : goal.returns
 returns c =
-    header_written c.args.f c.write_u64.new.s c.write_u64-2.new.s c.write_u64-3.new.s c.write_u64-4.new.s c.write_u32.new.s c.write_u32-2.new.s (omega arith)
+    header_written c.args.f c.write.new.s c.write-2.new.s c.write-3.new.s c.write-4.new.s c.write-5.new.s c.write-6.new.s (omega arith)
     (search rules) (search rules) (search rules) (search rules) (search rules) (search rules)

@@ -7,5 +7,5 @@ use Rattle.record.proofs.entries.write_header.Goals as goal
 pub returns : goal.returns
 returns c =
     let h = c.write_fields.new.out in
-    let l : length h ≡ 40 = ap length c.write_fields.ensures ∙ length_header c.fields_of.result in
-    record { here = take_at h _ 40 l ∙ c.write_fields.ensures ∙ ap header_field_bytes c.fields_of.ensures; rest = drop_at h _ 40 l }
+    let l : length h ≡ 40 = ap length c.write_fields.ensures ∙ length_header c.from.result in
+    record { here = take_at h _ 40 l ∙ c.write_fields.ensures ∙ ap header_field_bytes c.from.ensures; rest = drop_at h _ 40 l }

@@ -9,5 +9,5 @@ returns c =
     let t = c.write_tag.new.out in
     let l : length t ≡ 8 = ap length c.write_tag.ensures ∙ length_tag c.args.f.tag in
     let n = over_front 8 c.args.out.now t (omega arith) l in
-    fields_written c.args.f _ c.write_u64.new.s c.write_u64-2.new.s c.write_u32.new.s c.write_u32-2.new.s (omega arith) (take_at t _ 8 l ∙ c.write_tag.ensures)
-    c.write_u64.ensures.front (search rules) (search rules) (search rules)
+    fields_written c.args.f _ c.write.new.s c.write-2.new.s c.write-3.new.s c.write-4.new.s (omega arith) (take_at t _ 8 l ∙ c.write_tag.ensures)
+    c.write.ensures.front (search rules) (search rules) (search rules)
