@@ -88,5 +88,5 @@ pub fn read_mark<C: Chip>(
 fn shown(page: &[u8]) -> Option<Mark>
     requires { length page.now ≡ 4352 }
 {
-    from_bytes(&codec::mark_of(page)?)
+    from_bytes(&codec::mark_of(page)?).ok()
 }

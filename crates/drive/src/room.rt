@@ -3,7 +3,7 @@ ghost use Rattle.std.specs.Prelude.{◌≡◌, ℕ, ◌+◌, ◌*◌, ◌<◌, �
 ghost use Rattle.words.specs.Words.{value_at, Written};
 ghost use Rattle.drive.specs.Room.{Lent, block_at, place_at, standing, code_of};
 
-use words::{read_u16, read_u32, read_u64, write_u16, write_u32, write_u64};
+use words::{read, write};
 
 // Where the page buffer begins; the eight command buffers lie before it.
 pub const PAGE: usize = 262_144;
@@ -32,7 +32,7 @@ pub fn number_of(room: &[u8], shape: Shape, block: u32) -> u64
     requires { (Lent shape room.now) × (block < shape.blocks) }
     ensures { result ≡ value_at 8 room.now (block_at block) }
 {
-    read_u64(room, entry(block))
+    read(room, entry(block))
 }
 
 // Notes a block's number.
@@ -40,7 +40,7 @@ pub fn set_number(room: &mut [u8], shape: Shape, block: u32, number: u64)
     requires { (Lent shape room.old) × (block < shape.blocks) }
     ensures { Written 8 (block_at block) number room.old room.new }
 {
-    write_u64(room, entry(block), number);
+    write(room, entry(block), number);
 }
 
 // The index of a block's first record.
@@ -48,7 +48,7 @@ pub fn first_of(room: &[u8], shape: Shape, block: u32) -> u64
     requires { (Lent shape room.now) × (block < shape.blocks) }
     ensures { result ≡ value_at 8 room.now (block_at block + 8) }
 {
-    read_u64(room, entry(block) + 8)
+    read(room, entry(block) + 8)
 }
 
 // Notes the index of a block's first record.
@@ -56,7 +56,7 @@ pub fn set_first(room: &mut [u8], shape: Shape, block: u32, first: u64)
     requires { (Lent shape room.old) × (block < shape.blocks) }
     ensures { Written 8 (block_at block + 8) first room.old room.new }
 {
-    write_u64(room, entry(block) + 8, first);
+    write(room, entry(block) + 8, first);
 }
 
 // The block behind a block in the log.
@@ -64,7 +64,7 @@ pub fn successor_of(room: &[u8], shape: Shape, block: u32) -> u32
     requires { (Lent shape room.now) × (block < shape.blocks) }
     ensures { result ≡ value_at 4 room.now (block_at block + 16) }
 {
-    read_u32(room, entry(block) + 16)
+    read(room, entry(block) + 16)
 }
 
 // Notes the block behind a block in the log.
@@ -72,7 +72,7 @@ pub fn set_successor(room: &mut [u8], shape: Shape, block: u32, successor: u32)
     requires { (Lent shape room.old) × (block < shape.blocks) }
     ensures { Written 4 (block_at block + 16) successor room.old room.new }
 {
-    write_u32(room, entry(block) + 16, successor);
+    write(room, entry(block) + 16, successor);
 }
 
 // How many records of a block count.
@@ -80,7 +80,7 @@ pub fn records_of(room: &[u8], shape: Shape, block: u32) -> u16
     requires { (Lent shape room.now) × (block < shape.blocks) }
     ensures { result ≡ value_at 2 room.now (block_at block + 20) }
 {
-    read_u16(room, entry(block) + 20)
+    read(room, entry(block) + 20)
 }
 
 // Notes how many records of a block count.
@@ -88,15 +88,15 @@ pub fn set_records(room: &mut [u8], shape: Shape, block: u32, records: u16)
     requires { (Lent shape room.old) × (block < shape.blocks) }
     ensures { Written 2 (block_at block + 20) records room.old room.new }
 {
-    write_u16(room, entry(block) + 20, records);
+    write(room, entry(block) + 20, records);
 }
 
 // Where a block stands: it may be taken, it must be kept, or its header can't be read.
 #[derive(Clone, Copy)]
 pub enum Standing {
-    Free,
-    Kept,
-    Unreadable,
+    Free = 0,
+    Kept = 1,
+    Unreadable = 2,
 }
 
 // Where a block stands.
@@ -104,7 +104,7 @@ pub fn standing_of(room: &[u8], shape: Shape, block: u32) -> Standing
     requires { (Lent shape room.now) × (block < shape.blocks) }
     ensures { result ≡ standing (value_at 2 room.now (block_at block + 22)) }
 {
-    match read_u16(room, entry(block) + 22) {
+    match read::<u16, _>(room, entry(block) + 22) {
         0 => Standing::Free,
         1 => Standing::Kept,
         _ => Standing::Unreadable,
@@ -116,12 +116,7 @@ pub fn set_standing(room: &mut [u8], shape: Shape, block: u32, standing: Standin
     requires { (Lent shape room.old) × (block < shape.blocks) }
     ensures { Written 2 (block_at block + 22) (code_of standing) room.old room.new }
 {
-    let code = match standing {
-        Standing::Free => 0,
-        Standing::Kept => 1,
-        Standing::Unreadable => 2,
-    };
-    write_u16(room, entry(block) + 22, code);
+    write(room, entry(block) + 22, standing as u16);
 }
 
 // Whether a block may be taken.
@@ -129,7 +124,7 @@ pub fn is_free(room: &[u8], shape: Shape, block: u32) -> bool
     requires { (Lent shape room.now) × (block < shape.blocks) }
     ensures { result ≡ (value_at 2 room.now (block_at block + 22) == 0) }
 {
-    read_u16(room, entry(block) + 22) == 0
+    read::<u16, _>(room, entry(block) + 22) == 0
 }
 
 // The place of a sector: the address of its page plus one, 0 for none.
@@ -137,7 +132,7 @@ pub fn place_of(room: &[u8], shape: Shape, sector: u32) -> u32
     requires { (Lent shape room.now) × (sector < shape.total) }
     ensures { result ≡ value_at 4 room.now (place_at shape.blocks sector) }
 {
-    read_u32(
+    read(
         room,
         BLOCKS + 32 * shape.blocks as usize + 4 * sector as usize,
     )
@@ -148,7 +143,7 @@ pub fn set_place(room: &mut [u8], shape: Shape, sector: u32, place: u32)
     requires { (Lent shape room.old) × (sector < shape.total) }
     ensures { Written 4 (place_at shape.blocks sector) place room.old room.new }
 {
-    write_u32(
+    write(
         room,
         BLOCKS + 32 * shape.blocks as usize + 4 * sector as usize,
         place,

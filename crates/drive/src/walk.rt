@@ -26,14 +26,14 @@ pub struct Stretch {
 fn header_in(room: &[u8]) -> Option<HeaderData>
     requires { 1048576 ≤ length room.now }
 {
-    read_header(&room[PAGE..PAGE + 4096])
+    read_header(&room[PAGE..PAGE + 4096]).ok()
 }
 
 // An entry of the header in the room, for a record of its predecessor.
 fn entry_in(room: &[u8], i: u32) -> Option<Content>
     requires { (1048576 ≤ length room.now) × (i < 256) }
 {
-    read_entry(&room[PAGE..PAGE + 4096], i as usize)
+    read_entry(&room[PAGE..PAGE + 4096], i as usize).ok()
 }
 
 impl Journal {
