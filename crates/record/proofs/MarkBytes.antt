@@ -25,6 +25,7 @@ kind_at (suc (suc (suc zero))) = Table
 kind_at (suc (suc (suc (suc zero)))) = Seal
 kind_at (suc (suc (suc (suc (suc n))))) = Void
 
+-- it gives back each kind
 kind_at-code_of : (k : Kind) → kind_at (code_of k) ≡ k
 kind_at-code_of Header = refl
 kind_at-code_of Data = refl
@@ -32,6 +33,7 @@ kind_at-code_of Table = refl
 kind_at-code_of Seal = refl
 kind_at-code_of Void = refl
 
+-- no two kinds have the same number
 kinds_same : (k l : Kind) → code_of k ≡ code_of l → k ≡ l
 kinds_same k l e = sym (kind_at-code_of k) ∙ ap kind_at e ∙ kind_at-code_of l
 
@@ -58,6 +60,7 @@ tag_read xs t low l ek ef ec ep =
     let z = append-nil (little 4 t.place) in
     cc
 
+-- bytes whose first is no kind are no tag's
 pub no_tag : (xs : List ℕ) → ((k : Kind) → get_or xs 0 0 ≡ code_of k → ⊥) → (t : Tag) → xs ≡ tag_bytes t → ⊥
 unfolding tag_bytes
 no_tag xs none t e = none t.kind (ap (λ (x : List ℕ). get_or x 0 0) e)
@@ -104,6 +107,7 @@ fields_read xs f low l eg en et eb ev =
     let z = append-nil (little 4 f.version) in
     cc
 
+-- bytes that don't begin with a tag are those of no fields
 pub no_fields : (xs : List ℕ) → ((t : Tag) → take 8 xs ≡ tag_bytes t → ⊥) → (f : Fields) → xs ≡ field_bytes f → ⊥
 unfolding field_bytes
 no_fields xs none f e = none f.tag (ap (take 8) e ∙ take_at (tag_bytes f.tag) _ 8 (length_tag f.tag))

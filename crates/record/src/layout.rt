@@ -15,7 +15,7 @@ const NO_BLOCK: u32 = 0xffff_ffff;
 // What each mark has at its end.
 const VERSION: u32 = 1;
 
-// The number that stands for a block or for none.
+// The number that stands for a block or for none. No `From`: both types would be the library's.
 pub fn block_field(block: Option<BlockIndex>) -> u32
     ensures { result ≡ block_field block }
 {

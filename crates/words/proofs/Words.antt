@@ -1,10 +1,12 @@
 -- The laws of integers in bytes, over the width. Assumes nothing.
 use Rattle.std.proofs.Common.{◌≡◌, ℕ, zero, suc, ◌+◌, ◌-◌, ◌*◌, ◌/◌, ◌%◌, ◌^◌, ◌<◌, ◌≤◌, ◌⊎◌, List, [], ◌∷◌, ◌++◌, length, get_or, take, drop, sym, refl, ap, ◌∙◌, ap₂, inl, inr, pow-suc, arith, length-drop}
 use native.Mathlib.Nat.{one-le-pow}
+use Rattle.std.proofs.Math.Nat.{mul-add, mul_comm, mul_assoc, div-div-eq-div-mul}
 use borrow.Rule.Slice.PartMut.{put_mid}
 use Rattle.std.proofs.lemmas.List.{places, drop-take, drop_at, drop_all, get_or-drop, length-take-le}
 use Rattle.std.proofs.lemmas.Slice.{take-put_mid, take-put_mid_below, drop-put_mid}
 use Rattle.std.proofs.lemmas.Bool.{cases_lt}
+use Rattle.std.specs.Int.{byte_worth, byte_at, bytes_low_first, sum_through}
 use Rattle.words.specs.Words.{value, little, value_at, Written}
 
 each_taken : (n : ℕ) (bs : List ℕ) → ((k : ℕ) → get_or bs k 0 < 256) → (k : ℕ) → get_or (take n bs) k 0 < 256
@@ -95,12 +97,13 @@ written (suc n) i xs ys v some h is =
       front = take-put_mid i k xs ys (i + suc n) (omega arith) low ∙ ap (λ z. take i xs ++ z) is;
     }
 
--- ---- the bytes of the three widths
+-- ---- the bytes of a number
 
 -- n bytes from i on, as a slice names them
 pub part : (i n : ℕ) (xs bs : List ℕ) → bs ≡ take (i + n - i) (drop i xs) → bs ≡ take n (drop i xs)
 part i n xs bs e = let k : i + n - i ≡ n = omega arith in e ∙ ap (λ m. take m (drop i xs)) k
 
+-- the number from place k on: the byte there, and the number behind it
 next : (k : ℕ) (bs : List ℕ) → value (drop k bs) ≡ get_or bs k 0 + 256 * value (drop (suc k) bs)
 unfolding value
 next zero [] = refl
@@ -108,42 +111,41 @@ next zero (b ∷ bs) = refl
 next (suc k) [] = refl
 next (suc k) (b ∷ bs) = next k bs
 
-end : (n : ℕ) (bs : List ℕ) → length bs ≡ n → value (drop n bs) ≡ 0
+-- byte i of v
+byte_at-pow : (i v : ℕ) → byte_at i v ≡ v / 256 ^ i % 256
+byte_at-pow zero v = omega arith
+byte_at-pow (suc i) v = refl
+
+-- what the first bytes say, and those behind them
+sums : (k : ℕ) (bs : List ℕ) → value bs ≡ sum_through (λ i. byte_worth i (get_or bs i 0)) k + 256 ^ suc k * value (drop (suc k) bs)
+sums zero bs = omega (arith, next 0 bs)
+sums (suc k) bs =
+    let p = 256 ^ suc k in
+    let b = get_or bs (suc k) 0 in
+    let v = value (drop (suc (suc k)) bs) in
+    sums k bs ∙ rw (next (suc k) bs, mul-add p b (256 * v), sym (mul_assoc p 256 v), sym (pow-suc 256 (suc k)), mul_comm p b) (omega arith)
+
+-- the bytes of a number, as the library's reading of them says it
+pub value_sum : (n : ℕ) (bs : List ℕ) → length bs ≡ suc n → sum_through (λ i. byte_worth i (get_or bs i 0)) n ≡ value bs
 unfolding value
-end n bs l = ap value (drop_all n bs (omega arith))
+value_sum n bs l =
+    let v : value (drop (suc n) bs) ≡ 0 = ap value (drop_all (suc n) bs (omega arith)) in
+    let s = sums n bs in
+    let z : 256 ^ suc n * value (drop (suc n) bs) ≡ 0 = ap (λ x. 256 ^ suc n * x) v ∙ omega arith in
+    omega (arith, s, z)
 
-pub value_2 : (bs : List ℕ) → length bs ≡ 2 → get_or bs 0 0 + get_or bs 1 0 * 256 ≡ value bs
-value_2 bs l = omega (arith, next 0 bs, next 1 bs, end 2 bs l)
-
-pub value_4 : (bs : List ℕ) → length bs ≡ 4 → get_or bs 0 0 + get_or bs 1 0 * 256 + get_or bs 2 0 * 65536 + get_or bs 3 0 * 16777216 ≡ value bs
-value_4 bs l = omega (arith, next 0 bs, next 1 bs, next 2 bs, next 3 bs, end 4 bs l)
-
-pub value_8 : (bs : List ℕ) → length bs ≡ 8
-    → get_or bs 0 0 + get_or bs 1 0 * 256 + get_or bs 2 0 * 65536 + get_or bs 3 0 * 16777216 + get_or bs 4 0 * 4294967296 + get_or bs 5 0 * 1099511627776 + get_or bs 6 0 * 281474976710656 + get_or bs 7 0 * 72057594037927936 ≡ value bs
-value_8 bs l = omega (arith, next 0 bs, next 1 bs, next 2 bs, next 3 bs, next 4 bs, next 5 bs, next 6 bs, next 7 bs, end 8 bs l)
-
-pub little_2 : (v : ℕ) → v < 2 ^ 16 → v % 256 ∷ v / 256 % 256 ∷ [] ≡ little 2 v
+-- the bytes of a number from place i on
+low_first : (n i v : ℕ) → v / 256 ^ i < 256 ^ suc n → bytes_low_first i (suc n) v ≡ little (suc n) (v / 256 ^ i)
 unfolding little
-little_2 v h = let a : v / 256 % 256 ≡ v / 256 = omega arith in cc
+low_first zero i v h = ap (λ x. x ∷ []) (byte_at-pow i v ∙ omega arith)
+low_first (suc n) i v h =
+    let shift : v / 256 ^ suc i ≡ v / 256 ^ i / 256 = ap (λ (p : ℕ). v / p) (pow-suc 256 i) ∙ sym (div-div-eq-div-mul v (256 ^ i) 256) in
+    let q : 256 ^ suc (suc n) ≡ 256 ^ suc n * 256 = pow-suc 256 (suc n) in
+    ap₂ (λ (x : ℕ) (y : List ℕ). x ∷ y) (byte_at-pow i v) (low_first n (suc i) v (omega arith) ∙ ap (little (suc n)) shift)
 
-pub little_4 : (v : ℕ) → v < 2 ^ 32 → v % 256 ∷ v / 256 % 256 ∷ v / 65536 % 256 ∷ v / 16777216 % 256 ∷ [] ≡ little 4 v
-unfolding little
-little_4 v h =
-    let b : v / 65536 % 256 ≡ v / 256 / 256 % 256 = omega arith in
-    let c : v / 16777216 % 256 ≡ v / 256 / 256 / 256 = omega arith in
-    cc
-
-pub little_8 : (v : ℕ) → v < 2 ^ 64
-    → v % 256 ∷ v / 256 % 256 ∷ v / 65536 % 256 ∷ v / 16777216 % 256 ∷ v / 4294967296 % 256 ∷ v / 1099511627776 % 256 ∷ v / 281474976710656 % 256 ∷ v / 72057594037927936 % 256 ∷ [] ≡ little 8 v
-unfolding little
-little_8 v h =
-    let b : v / 65536 ≡ v / 256 / 256 = omega arith in
-    let c : v / 16777216 ≡ v / 65536 / 256 = omega arith in
-    let d : v / 4294967296 ≡ v / 16777216 / 256 = omega arith in
-    let e : v / 1099511627776 ≡ v / 4294967296 / 256 = omega arith in
-    let f : v / 281474976710656 ≡ v / 1099511627776 / 256 = omega arith in
-    let g : v / 72057594037927936 % 256 ≡ v / 281474976710656 / 256 = omega arith in
-    cc
+-- the bytes of a number, as the library's writing of it says it
+pub little_bytes : (n v : ℕ) → v < 256 ^ suc n → bytes_low_first 0 (suc n) v ≡ little (suc n) v
+little_bytes n v h = let d : v / 256 ^ 0 ≡ v = omega arith in low_first n 0 v (omega arith) ∙ ap (little (suc n)) d
 
 -- two words do not overlap
 pub apart_words : (j k : ℕ) → (j ≡ k → ⊥) → (8 * j + 8 ≤ 8 * k) ⊎ (8 * k + 8 ≤ 8 * j)

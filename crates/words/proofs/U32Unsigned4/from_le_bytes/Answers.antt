@@ -1,6 +1,6 @@
 use Rattle.std.proofs.Common.{◌∙◌, rules}
-use Rattle.words.proofs.Words.{value_4}
+use Rattle.words.proofs.Words.{value_sum}
 use Rattle.words.proofs.U32Unsigned4.from_le_bytes.Goals as goal
 
 pub returns : goal.returns
-returns c = c.from_le_bytes.ensures ∙ value_4 c.args.bytes (search rules)
+returns c = c.from_le_bytes.ensures ∙ value_sum 3 c.args.bytes (search rules)

@@ -1,6 +1,6 @@
 use Rattle.std.proofs.Common.{◌∙◌, arith}
-use Rattle.words.proofs.Words.{little_4}
+use Rattle.words.proofs.Words.{little_bytes}
 use Rattle.words.proofs.U32Unsigned4.to_le_bytes.Goals as goal
 
 pub returns : goal.returns
-returns c = c.to_le_bytes.ensures ∙ little_4 c.args.self (omega arith)
+returns c = c.to_le_bytes.ensures ∙ little_bytes 3 c.args.self (omega arith)
