@@ -96,15 +96,7 @@ impl TryFrom<Fields> for Mark {
                 tail,
                 bad_blocks,
             })),
-            (
-                Tag {
-                    kind: Kind::Void,
-                    flag: 0,
-                    commit: 0,
-                    place: 0,
-                },
-                0,
-            ) => Ok(Mark::Void(VoidMark {
+            (tag, 0) if tag == Tag::bare(Kind::Void) => Ok(Mark::Void(VoidMark {
                 number: BlockNumber { number: f.number },
                 tail,
             })),

@@ -1,14 +1,14 @@
 // What the mark of a page says.
 use crate::numbers::{BlockIndex, BlockNumber, PageIndex, RecordIndex, SectorNumber, TableNumber};
 
-// Where a record comes from: it is new, or was copied from the tail of the log.
+// Where a record comes from: it is new, or was copied from the tail of the log. Its number is the tag's flag.
 #[derive(Clone, Copy, PartialEq, Eq)]
 pub enum Origin {
     Fresh = 0,
     Copied = 1,
 }
 
-// Where a seal comes from: a flush, or the recovery after a power loss.
+// Where a seal comes from: a flush, or the recovery after a power loss. Its number is the tag's flag.
 #[derive(Clone, Copy, PartialEq, Eq)]
 pub enum SealOrigin {
     Flush = 0,
