@@ -1,15 +1,13 @@
 -- Digits at the front of a line, and the number that they write. Assumes nothing.
-use Rattle.std.proofs.Common.{◌≡◌, ℕ, ◌+◌, ◌-◌, ◌*◌, ◌/◌, ◌%◌, ◌^◌, ◌<◌, ◌≤◌, List, [], ◌∷◌, ◌++◌, length, get_or, drop, decimal, sym, refl, ap, ◌∙◌, subst, ⊎_elim, arith}
+use Rattle.std.proofs.Common.{◌≡◌, ℕ, ◌⊎◌, inl, inr, ◌+◌, ◌-◌, ◌*◌, ◌^◌, ◌<◌, ◌≤◌, List, [], ◌∷◌, ◌++◌, length, get_or, drop, decimal, sym, refl, ap, ◌∙◌, subst, ⊎_elim, arith}
 use Rattle.std.specs.Str.Parse.{AllDigits, digits_value, digits_value_after}
 use Rattle.std.specs.Int.{IsInRange}
-use Rattle.std.specs.Char.{digit_value as digitValue, digit_char}
+use Rattle.std.specs.Char.{digit_value as digitValue}
 use Rattle.std.proofs.lemmas.Fmt.{decimal_is_IsNumeral, decimal_digit, decimal_nonempty, first_decimal, decimal_injective, decimal-digits_value}
-use Rattle.std.proofs.lemmas.Slice.Eq.{text_from_reads}
-use Rattle.std.proofs.lemmas.List.{drop_more, drop_all}
-use Rattle.std.proofs.lemmas.Str.Parse.{IsNumeralModel, numerals_by_value, tells_digits, digit_from_value}
+use Rattle.std.proofs.lemmas.List.{drop_more}
+use Rattle.std.proofs.lemmas.Str.Parse.{IsNumeralModel, numerals_by_value, tells_digits, tells_by_index, digit_from_value}
 use Rattle.std.proofs.lemmas.Bool.{cases_lt, lt-ltb, le-ltb}
-use Rattle.script.specs.Readings.{Ends, Plain, SplitDigits, Once, Never}
-use Rattle.script.specs.Fields.{byte_text}
+use Rattle.script.specs.Readings.{Ends, Plain, SplitBefore, SplitDigits, Once, Never}
 
 own : IsNumeralModel (AllDigits 10) (digits_value 10)
 own = numerals_by_value (AllDigits 10) tells_digits
@@ -83,20 +81,15 @@ pub remaining_over : (s : List ℕ) (i n v m : ℕ) → i < length s → Remaini
 remaining_over s i n v m h l k =
     let r = (remaining_more s i n v h l).1 in omega (arith, r.writes, value_after_ge (n * 10 + (get_or s i 0 - 48)) (drop (i + 1) s))
 
--- at the end
-pub remaining_none : (s : List ℕ) (i n v : ℕ) → length s ≤ i → Remaining s i n v → n ≡ v
-remaining_none s i n v h l = rw (drop_all i s h) at l.writes
+-- what is read up to the first byte that is no digit are the digits that a line begins with
+pub digits_before : {Runs Stops : ℕ → Type 0} (s ds rest : List ℕ) → SplitBefore Runs Stops s ds rest → ((c : ℕ) → Runs c → IsInRange 48 57 c) → ((c : ℕ) → Stops c → IsInRange 48 57 c → ⊥) → SplitDigits s ds rest
+digits_before {Runs} {Stops} s ds rest b is isnt =
+    record { whole = b.whole; digits = (numerals_by_value _ tells_by_index).to ds (λ k l. is _ (b.runs k 0 l)); ends = ends rest b.stops }
+  where
+    ends : (r : List ℕ) → (r ≡ []) ⊎ Stops (get_or r 0 0) → Ends r
+    ends [] h = tt
+    ends (c ∷ cs) h = ⊎_elim (λ (e : c ∷ cs ≡ []). absurd (omega (arith, ap length e))) (isnt c) h
 
--- digits end at another byte, and at the end of the line
-pub ends_at : (s : List ℕ) (i : ℕ) → i < length s → (IsInRange 48 57 (get_or s i 0) → ⊥) → Ends (drop i s)
-ends_at s i h other = rw (drop_more s i 0 h) other
-
-pub ends_all : (s : List ℕ) (i : ℕ) → length s ≤ i → Ends (drop i s)
-ends_all s i h = rw (drop_all i s h) tt
-
--- three bytes that are a byte field
-pub byte_line : (s : List ℕ) (h l : ℕ) → length s ≡ 3 → get_or s 0 0 ≡ 32 → (h < 16) × (get_or s 1 0 ≡ digit_char h) → (l < 16) × (get_or s 2 0 ≡ digit_char l) → (16 * h + l < 256) × (s ≡ byte_text (16 * h + l))
-byte_line s h l three space eh el =
-    let q : (16 * h + l) / 16 ≡ h = omega arith in
-    let r : (16 * h + l) % 16 ≡ l = omega arith in
-    (omega arith, rw (q, r) (text_from_reads s (32 ∷ digit_char h ∷ digit_char l ∷ []) three (space, (eh.1, (el.1, tt)))))
+-- the same bytes are told by other tests
+pub split_kinds : {Runs Stops Runs' Stops' : ℕ → Type 0} (s front rest : List ℕ) → SplitBefore Runs Stops s front rest → ((c : ℕ) → Runs c → Runs' c) → ((c : ℕ) → Stops c → Stops' c) → SplitBefore Runs' Stops' s front rest
+split_kinds s front rest b f g = record { whole = b.whole; runs = λ k d l. f _ (b.runs k d l); stops = ⊎_elim inl (λ h. inr (g _ h)) b.stops }

@@ -1,16 +1,99 @@
 -- The lines of commands. Assumes nothing.
-use Rattle.std.proofs.Common.{◌≡◌, ℕ, ◌/◌, ◌%◌, ◌^◌, ◌<◌, List, ◌++◌, get_or, Some, None, codes, decimal, sym, refl, ap, ◌∙◌, append_assoc, arith}
+use Rattle.std.proofs.Common.{◌≡◌, ℕ, ◌/◌, ◌%◌, ◌^◌, ◌<◌, ◌⊎◌, suc, List, [], ◌∷◌, ◌++◌, length, get_or, Option, Some, None, ◌≢◌, ⊎_elim, rules, codes, decimal, sym, refl, ap, ◌∙◌, append_assoc, arith}
 use Rattle.std.proofs.lemmas.Fmt.{decimal_is_IsNumeral, decimal_injective}
 use Rattle.std.proofs.lemmas.Str.{digit_value-digit_char}
 use Rattle.std.specs.Char.{digit_value}
+use Rattle.std.specs.List.{All}
+use Rattle.std.specs.Option.{option_map}
 use Rattle.script.specs.declared.spans.Span.{Span}
 use Rattle.script.specs.declared.commands.Command.{Command}
 use Rattle.script.specs.declared.commands.Command.TheVariants.{Write, Read, Trim, Flush, Turn, Cut, Seed}
 use Rattle.script.specs.Fields.{field_text, byte_text}
-use Rattle.script.specs.Readings.{Ends, Begins, Once, Never, Whole}
+use Rattle.script.specs.Readings.{Ends, SplitBefore, Begins, Once, Never, Whole}
 use Rattle.script.specs.Spans.{span_text, SpanFits}
 use Rattle.script.proofs.Digits.{same_digits}
 use Rattle.script.specs.Commands.{text, Fits, OneReading, ReadsBack}
+
+-- a command's word
+abbrev pub name : Command → List ℕ
+name (Write tag from many fill) = codes "write"
+name (Read tag from many) = codes "read"
+name (Trim tag from many) = codes "trim"
+name (Flush tag) = codes "flush"
+name (Turn count) = codes "turn"
+name (Cut asks) = codes "cut"
+name (Seed seed) = codes "seed"
+
+-- and what stands behind it
+abbrev pub fields : Command → List ℕ
+fields (Write tag from many fill) = field_text tag ++ (field_text from ++ (field_text many ++ byte_text fill))
+fields (Read tag from many) = field_text tag ++ (field_text from ++ field_text many)
+fields (Trim tag from many) = field_text tag ++ (field_text from ++ field_text many)
+fields (Flush tag) = field_text tag
+fields (Turn count) = field_text count
+fields (Cut asks) = field_text asks
+fields (Seed seed) = field_text seed
+
+-- the first space stands behind the word
+spaced : (word rest more : List ℕ) (n : List ℕ) → All (λ b. b ≢ 32) word → (rest ≡ []) ⊎ (get_or rest 0 0 ≡ 32) → All (λ b. b ≢ 32) n → word ++ rest ≡ n ++ 32 ∷ more → (word ≡ n) × (rest ≡ 32 ∷ more)
+spaced [] rest more [] a s b e = (refl, e)
+spaced [] rest more (y ∷ n) a s b e = absurd (⊎_elim (λ (q : rest ≡ []). omega (arith, ap length q, ap length e)) (λ q. b 0 0 (omega arith) (sym (ap (λ l. get_or l 0 0) e) ∙ q)) s)
+spaced (x ∷ word) rest more [] a s b e = absurd (a 0 0 (omega arith) (ap (λ l. get_or l 0 0) e))
+spaced (x ∷ word) rest more (y ∷ n) a s b e =
+    let tail : word ++ rest ≡ n ++ 32 ∷ more = cc in
+    let ih = spaced word rest more n (λ k d l. a (suc k) d (omega arith)) s (λ k d l. b (suc k) d (omega arith)) tail in (cc, ih.1)
+
+-- the line of a command begins with its word
+pub named : (line word rest : List ℕ) (c : Command) → SplitBefore (λ b. b ≢ 32) (λ b. b ≡ 32) line word rest → line ≡ text c → (word ≡ name c) × (rest ≡ fields c)
+named line word rest (Write t f m b) h e = spaced word rest _ (codes "write") h.runs h.stops (search rules) (sym h.whole ∙ e)
+named line word rest (Read t f m) h e = spaced word rest _ (codes "read") h.runs h.stops (search rules) (sym h.whole ∙ e)
+named line word rest (Trim t f m) h e = spaced word rest _ (codes "trim") h.runs h.stops (search rules) (sym h.whole ∙ e)
+named line word rest (Flush t) h e = spaced word rest _ (codes "flush") h.runs h.stops (search rules) (sym h.whole ∙ e)
+named line word rest (Turn n) h e = spaced word rest _ (codes "turn") h.runs h.stops (search rules) (sym h.whole ∙ e)
+named line word rest (Cut n) h e = spaced word rest _ (codes "cut") h.runs h.stops (search rules) (sym h.whole ∙ e)
+named line word rest (Seed n) h e = spaced word rest _ (codes "seed") h.runs h.stops (search rules) (sym h.whole ∙ e)
+
+-- behind a word, what is read gives a command or none
+pub read_is : (s : List ℕ) (o : Option Span) → Whole span_text SpanFits s o → Whole text Fits (codes "read" ++ s) (option_map (λ v. Read v.tag v.from v.many) o)
+read_is s None h = never
+  where
+    none : (t f m : ℕ) → t < 256 → f < 2 ^ 32 → m < 2 ^ 32 → s ≡ field_text t ++ (field_text f ++ field_text m) → ⊥
+    none t f m a b c e = h record { tag = t; from = f; many = m } (a, b, c) e
+
+    never : (c : Command) → Fits c → codes "read" ++ s ≡ text c → ⊥
+    never c k e = grind (arith, none)
+read_is s (Some v) h = (h.0, ap (λ l. codes "read" ++ l) h.1)
+
+pub trim_is : (s : List ℕ) (o : Option Span) → Whole span_text SpanFits s o → Whole text Fits (codes "trim" ++ s) (option_map (λ v. Trim v.tag v.from v.many) o)
+trim_is s None h = never
+  where
+    none : (t f m : ℕ) → t < 256 → f < 2 ^ 32 → m < 2 ^ 32 → s ≡ field_text t ++ (field_text f ++ field_text m) → ⊥
+    none t f m a b c e = h record { tag = t; from = f; many = m } (a, b, c) e
+
+    never : (c : Command) → Fits c → codes "trim" ++ s ≡ text c → ⊥
+    never c k e = grind (arith, none)
+trim_is s (Some v) h = (h.0, ap (λ l. codes "trim" ++ l) h.1)
+
+pub flush_is : (s : List ℕ) (o : Option ℕ) → Whole field_text (λ n. n < 256) s o → Whole text Fits (codes "flush" ++ s) (option_map Flush o)
+flush_is s None h = never
+  where
+    never : (c : Command) → Fits c → codes "flush" ++ s ≡ text c → ⊥
+    never c k e = grind (arith, h)
+flush_is s (Some v) h = (h.0, ap (λ l. codes "flush" ++ l) h.1)
+
+pub turn_is : (s : List ℕ) (o : Option ℕ) → Whole field_text (λ n. n < 2 ^ 32) s o → Whole text Fits (codes "turn" ++ s) (option_map Turn o)
+turn_is s None h = never
+  where
+    never : (c : Command) → Fits c → codes "turn" ++ s ≡ text c → ⊥
+    never c k e = grind (arith, h)
+turn_is s (Some v) h = (h.0, ap (λ l. codes "turn" ++ l) h.1)
+
+pub seed_is : (s : List ℕ) (o : Option ℕ) → Whole field_text (λ n. n < 2 ^ 32) s o → Whole text Fits (codes "seed" ++ s) (option_map Seed o)
+seed_is s None h = never
+  where
+    never : (c : Command) → Fits c → codes "seed" ++ s ≡ text c → ⊥
+    never c k e = grind (arith, h)
+seed_is s (Some v) h = (h.0, ap (λ l. codes "seed" ++ l) h.1)
 
 -- the fields of a write begin with a span
 write_begins : (s : List ℕ) (t f m b : ℕ) → t < 256 → f < 2 ^ 32 → m < 2 ^ 32 → s ≡ field_text t ++ (field_text f ++ (field_text m ++ byte_text b)) → Begins span_text SpanFits s (record { tag = t; from = f; many = m }) (byte_text b)
@@ -29,24 +112,6 @@ write_no_byte s v rest o never c h e =
     let none : (t f m b : ℕ) → t < 256 → f < 2 ^ 32 → m < 2 ^ 32 → b < 256 → s ≡ field_text t ++ (field_text f ++ (field_text m ++ byte_text b)) → ⊥ =
     λ t f m b ht hf hm hb q. never b hb (sym (o.only _ (byte_text b) (write_begins s t f m b ht hf hm q)).1) in
     grind (arith, none)
-
--- a span and a byte are read
-pub write_is : (s : List ℕ) (v : Span) (rest : List ℕ) (b : ℕ) → Once span_text SpanFits s v rest → (b < 256) × (rest ≡ byte_text b) → Whole text Fits (codes "write" ++ s) (Some (Write v.tag v.from v.many b))
-write_is s v rest b o h =
-    let e : s ≡ span_text v ++ byte_text b = o.begins.same ∙ ap (λ l. span_text v ++ l) h.1 in
-    let f = o.begins.fit in
-    ((f.0, f.1, f.2, h.0), ap (λ l. codes "write" ++ l) (simp append_assoc at e))
-
--- behind `read` or `trim` no span is read
-module _ (s : List ℕ) (never : (v : Span) → SpanFits v → s ≡ span_text v → ⊥) where
-  none : (t f m : ℕ) → t < 256 → f < 2 ^ 32 → m < 2 ^ 32 → s ≡ field_text t ++ (field_text f ++ field_text m) → ⊥
-  none t f m a b c e = never record { tag = t; from = f; many = m } (a, b, c) e
-
-  pub read-never : (c : Command) → Fits c → codes "read" ++ s ≡ text c → ⊥
-  read-never c h e = grind (arith, none)
-
-  pub trim-never : (c : Command) → Fits c → codes "trim" ++ s ≡ text c → ⊥
-  trim-never c h e = grind (arith, none)
 
 -- numbers, bytes and ranges that are written alike are the same
 same_field : (m n : ℕ) (a b : List ℕ) → m < 2 ^ 32 → n < 2 ^ 32 → Ends a → Ends b → decimal m ++ a ≡ decimal n ++ b → (m ≡ n) × (a ≡ b)

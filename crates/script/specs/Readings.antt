@@ -1,5 +1,6 @@
 -- What it is to read a value off a line. Assumes nothing.
-use Rattle.std.specs.Prelude.{◌≡◌, ℕ, ◌<◌, List, [], ◌∷◌, ◌++◌, length, Some, None, Option, ◌≢◌, slice_index}
+use Rattle.std.specs.Prelude.{◌≡◌, ℕ, ◌<◌, ◌⊎◌, List, [], ◌∷◌, ◌++◌, length, Some, None, Option, ◌≢◌, slice_index}
+use Rattle.std.specs.List.{All}
 use Rattle.std.specs.Str.Parse.{AllDigits}
 use Rattle.std.specs.Int.{IsInRange}
 use Rattle.script.specs.declared.words.Piece.{Piece}
@@ -12,6 +13,12 @@ Ends (c ∷ cs) = IsInRange 48 57 c → ⊥
 -- there are digits, and no nought in front of others
 abbrev pub Plain : List ℕ → Type 0
 Plain ds = (0 < length ds) × (slice_index ds 0 ≡ 48 → length ds ≡ 1)
+
+-- s is bytes of one kind, and then a rest that is empty or begins with one of another
+pub record SplitBefore (Runs Stops : ℕ → Type 0) (s front rest : List ℕ) : Type 0 where
+  pub whole : s ≡ front ++ rest
+  pub runs : All Runs front
+  pub stops : (rest ≡ []) ⊎ Stops (slice_index rest 0)
 
 -- s is digits and then a rest that begins with none
 pub record SplitDigits (s ds rest : List ℕ) : Type 0 where

@@ -4,7 +4,7 @@ ghost use Rattle.script.specs.Readings.{Whole};
 ghost use Rattle.script.specs.Commands.{text, Fits, OneReading, ReadsBack};
 
 use crate::spans::{Span, only_number, only_span, only_tag, span_fields};
-use crate::words::{after, byte_field};
+use crate::words::{byte_field, split_at_byte};
 
 // What a script asks of a drive.
 #[derive(Clone, Copy, PartialEq, Eq, Debug)]
@@ -50,35 +50,32 @@ pub fn one_reading() -> u8
 pub fn parse(line: &[u8]) -> Option<Command>
     ensures { Whole text Fits line.now result }
 {
-    if let Some(rest) = after(line, b"write") {
-        return parse_write(rest);
+    let (word, fields) = split_at_byte(line, b' ');
+    match word {
+        b"write" => parse_write(fields),
+        b"read" => only_span(fields).map(|Span { tag, from, many }| Command::Read {
+            tag,
+            from,
+            many,
+        }),
+        b"trim" => only_span(fields).map(|Span { tag, from, many }| Command::Trim {
+            tag,
+            from,
+            many,
+        }),
+        b"flush" => only_tag(fields).map(|tag| Command::Flush { tag }),
+        b"turn" => only_number(fields).map(|count| Command::Turn { count }),
+        b"cut" => only_number(fields).map(|asks| Command::Cut { asks }),
+        b"seed" => only_number(fields).map(|seed| Command::Seed { seed }),
+        _ => None,
     }
-    if let Some(rest) = after(line, b"read") {
-        return parse_read(rest);
-    }
-    if let Some(rest) = after(line, b"trim") {
-        return parse_trim(rest);
-    }
-    if let Some(rest) = after(line, b"flush") {
-        return parse_flush(rest);
-    }
-    if let Some(rest) = after(line, b"turn") {
-        return parse_turn(rest);
-    }
-    if let Some(rest) = after(line, b"cut") {
-        return parse_cut(rest);
-    }
-    if let Some(rest) = after(line, b"seed") {
-        return parse_seed(rest);
-    }
-    None
 }
 
 // The command of a line that begins with `write`.
-fn parse_write(rest: &[u8]) -> Option<Command>
-    ensures { Whole text Fits (codes "write" ++ rest.now) result }
+fn parse_write(fields: &[u8]) -> Option<Command>
+    ensures { Whole text Fits (codes "write" ++ fields.now) result }
 {
-    let read = span_fields(rest)?;
+    let read = span_fields(fields)?;
     let fill = byte_field(read.rest)?;
     let Span { tag, from, many } = read.value;
     Some(Command::Write {
@@ -87,52 +84,4 @@ fn parse_write(rest: &[u8]) -> Option<Command>
         many,
         fill,
     })
-}
-
-// The command of a line that begins with `read`.
-fn parse_read(rest: &[u8]) -> Option<Command>
-    ensures { Whole text Fits (codes "read" ++ rest.now) result }
-{
-    let Span { tag, from, many } = only_span(rest)?;
-    Some(Command::Read { tag, from, many })
-}
-
-// The command of a line that begins with `trim`.
-fn parse_trim(rest: &[u8]) -> Option<Command>
-    ensures { Whole text Fits (codes "trim" ++ rest.now) result }
-{
-    let Span { tag, from, many } = only_span(rest)?;
-    Some(Command::Trim { tag, from, many })
-}
-
-// The command of a line that begins with `flush`.
-fn parse_flush(rest: &[u8]) -> Option<Command>
-    ensures { Whole text Fits (codes "flush" ++ rest.now) result }
-{
-    let tag = only_tag(rest)?;
-    Some(Command::Flush { tag })
-}
-
-// The command of a line that begins with `turn`.
-fn parse_turn(rest: &[u8]) -> Option<Command>
-    ensures { Whole text Fits (codes "turn" ++ rest.now) result }
-{
-    let count = only_number(rest)?;
-    Some(Command::Turn { count })
-}
-
-// The command of a line that begins with `cut`.
-fn parse_cut(rest: &[u8]) -> Option<Command>
-    ensures { Whole text Fits (codes "cut" ++ rest.now) result }
-{
-    let asks = only_number(rest)?;
-    Some(Command::Cut { asks })
-}
-
-// The command of a line that begins with `seed`.
-fn parse_seed(rest: &[u8]) -> Option<Command>
-    ensures { Whole text Fits (codes "seed" ++ rest.now) result }
-{
-    let seed = only_number(rest)?;
-    Some(Command::Seed { seed })
 }

@@ -1,7 +1,9 @@
 // The lines of a script.
-ghost use Rattle.std.specs.Prelude.{◌≡◌, ℕ, ◌<◌, ◌≤◌, length, ◌≢◌, slice_index};
 ghost use Rattle.script.specs.Lines.{LinesJoin, NextLine};
 
+use crate::words::split_at_byte;
+
+// Positions and not slices, since the tests compare them and the law of the lines speaks of them.
 // Where a line begins, where it ends without its line feed, and where the next one begins.
 #[derive(Clone, Copy, PartialEq, Eq, Debug)]
 pub struct Line {
@@ -24,26 +26,12 @@ pub fn next_line(script: &[u8], at: usize) -> Option<Line>
     if at >= script.len() {
         return None;
     }
-    let end = line_end(script, at);
+    let (line, _) = split_at_byte(&script[at..], b'\n');
+    let end = at + line.len();
     let next = if end < script.len() { end + 1 } else { end };
     Some(Line {
         start: at,
         end,
         next,
     })
-}
-
-// The first line feed from a place on, or else the script's end.
-fn line_end(script: &[u8], at: usize) -> usize
-    requires { at ≤ length script.now }
-    ensures within { (at ≤ result) × (result ≤ length script.now) }
-    ensures before { (k : ℕ) → at ≤ k → k < result → slice_index script.now k ≢ 10 }
-    ensures found { result < length script.now → slice_index script.now result ≡ 10 }
-{
-    for i in at..script.len() {
-        if script[i] == b'\n' {
-            return i;
-        }
-    }
-    script.len()
 }

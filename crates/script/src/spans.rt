@@ -36,31 +36,19 @@ pub fn span_fields(line: &[u8]) -> Option<Piece<'_, Span>>
 pub fn only_span(line: &[u8]) -> Option<Span>
     ensures { Whole span_text SpanFits line.now result }
 {
-    let span = span_fields(line)?;
-    if span.rest.len() > 0 {
-        return None;
-    }
-    Some(span.value)
+    span_fields(line)?.alone()
 }
 
 // A line that is a tag and nothing more.
 pub fn only_tag(line: &[u8]) -> Option<u8>
     ensures { Whole field_text (λ n. n < 256) line.now result }
 {
-    let tag = tag_field(line)?;
-    if tag.rest.len() > 0 {
-        return None;
-    }
-    Some(tag.value)
+    tag_field(line)?.alone()
 }
 
 // A line that is a number and nothing more.
 pub fn only_number(line: &[u8]) -> Option<u32>
     ensures { Whole field_text (λ n. n < 2 ^ 32) line.now result }
 {
-    let number = field(line)?;
-    if number.rest.len() > 0 {
-        return None;
-    }
-    Some(number.value)
+    field(line)?.alone()
 }

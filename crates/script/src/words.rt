@@ -1,9 +1,9 @@
 // The words of a line, each read off its front.
-ghost use Rattle.std.specs.Prelude.{◌≡◌, ℕ, ◌^◌, ◌<◌, ◌≤◌, List, ◌++◌, length, take, drop, decimal, MatchBool, MatchOption, ◌≢◌};
+ghost use Rattle.std.specs.Prelude.{◌≡◌, ℕ, ◌^◌, ◌<◌, true, false, [], length, decimal, MatchBool, MatchOption, ◌≢◌};
 ghost use Rattle.std.specs.Option.{SomeIff};
 ghost use Rattle.std.specs.Str.Parse.{AllDigits, digits_value as number_of};
 ghost use Rattle.std.specs.Char.{digit_char};
-ghost use Rattle.script.specs.Readings.{Ends, Plain, SplitDigits, Reads, Whole};
+ghost use Rattle.script.specs.Readings.{Plain, SplitBefore, SplitDigits, Reads, Whole};
 ghost use Rattle.script.specs.Fields.{field_text, byte_text};
 
 // A value that was read, and what stands behind it.
@@ -13,43 +13,43 @@ pub struct Piece<'a, T> {
     pub rest: &'a [u8],
 }
 
-// What stands behind a word, if the line begins with it.
-pub fn after<'a>(line: &'a [u8], word: &[u8]) -> Option<&'a [u8]>
-    ensures { MatchOption result ((rest : List ℕ) → line.now ≢ word.now ++ rest) (λ rest. line.now ≡ word.now ++ rest.now) }
-{
-    line.strip_prefix(word)
+impl<T: Copy> Piece<'_, T> {
+    // The value, if nothing stands behind it.
+    pub fn alone(self) -> Option<T>
+        ensures { MatchOption result (0 < length self.entry.rest.now) (λ v. (v ≡ self.entry.value) × (self.entry.rest.now ≡ [])) }
+    {
+        self.rest.is_empty().then_some(self.value)
+    }
 }
 
-// How many digits a line begins with.
-fn count_digits(line: &[u8]) -> usize
-    ensures within { result ≤ length line.now }
-    ensures digits { AllDigits 10 (take result line.now) }
-    ensures ends { Ends (drop result line.now) }
+// What stands in front of the first byte that passes a test, and the rest: nothing, or that byte and more.
+fn split_before<F: Fn(u8) -> bool>(line: &[u8], stops: F) -> (&[u8], &[u8])
+    requires { F.IsAlwaysCallable stops }
+    ensures { SplitBefore (λ b. F.post stops b false) (λ b. F.post stops b true) line.now result.0.now result.1.now }
 {
-    for (i, c) in line.iter().enumerate() {
-        if !c.is_ascii_digit() {
-            return i;
-        }
-    }
-    line.len()
+    let end = line.iter().position(|b| stops(*b)).unwrap_or(line.len());
+    line.split_at(end)
 }
 
 // A line, split behind the digits that it begins with.
 fn split_digits(line: &[u8]) -> (&[u8], &[u8])
     ensures { SplitDigits line.now result.0.now result.1.now }
 {
-    line.split_at(count_digits(line))
+    split_before(line, |b| !b.is_ascii_digit())
+}
+
+// A line, split in front of the first of such bytes.
+pub fn split_at_byte(line: &[u8], byte: u8) -> (&[u8], &[u8])
+    ensures { SplitBefore (λ b. b ≢ byte) (λ b. b ≡ byte) line.now result.0.now result.1.now }
+{
+    split_before(line, |b| b == byte)
 }
 
 // Whether there are digits, and no nought in front of others.
 fn is_plain(digits: &[u8]) -> bool
     ensures { MatchBool result (Plain digits.now) (Plain digits.now → ⊥) }
 {
-    if digits.len() < 2 {
-        digits.len() == 1
-    } else {
-        digits[0] != b'0'
-    }
+    !matches!(digits, [] | [b'0', _, ..])
 }
 
 // The number that digits write, if it is below 2^32.
@@ -59,7 +59,7 @@ fn digits_value(digits: &[u8]) -> Option<u32>
 {
     let mut n: u32 = 0;
     for c in digits {
-        n = n.checked_mul(10)?.checked_add((*c - b'0') as u32)?;
+        n = n.checked_mul(10)?.checked_add(u32::from(*c - b'0'))?;
     }
     Some(n)
 }
@@ -80,7 +80,9 @@ fn number(line: &[u8]) -> Option<Piece<'_, u32>>
 pub fn field(line: &[u8]) -> Option<Piece<'_, u32>>
     ensures { Reads field_text (λ n. n < 2 ^ 32) line.now result }
 {
-    let rest = after(line, b" ")?;
+    let [b' ', rest @ ..] = line else {
+        return None;
+    };
     number(rest)
 }
 
@@ -88,14 +90,9 @@ pub fn field(line: &[u8]) -> Option<Piece<'_, u32>>
 pub fn tag_field(line: &[u8]) -> Option<Piece<'_, u8>>
     ensures { Reads field_text (λ n. n < 256) line.now result }
 {
-    let read = field(line)?;
-    if read.value > 255 {
-        return None;
-    }
-    Some(Piece {
-        value: read.value as u8,
-        rest: read.rest,
-    })
+    let Piece { value, rest } = field(line)?;
+    let value = u8::try_from(value).ok()?;
+    Some(Piece { value, rest })
 }
 
 // The value of a small hexadecimal digit.

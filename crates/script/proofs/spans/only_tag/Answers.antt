@@ -1,10 +1,10 @@
 use Rattle.std.proofs.Common.{◌<◌}
 use Rattle.script.specs.Fields.{field_text}
-use Rattle.script.proofs.Readings.{whole_never, whole_more}
+use Rattle.script.proofs.Readings.{whole_never, whole_alone}
 use Rattle.script.proofs.spans.only_tag.Goals as goal
 
-pub returns-in_err-tag : goal.returns-in_err-tag
-returns-in_err-tag c = rw c.from_residual.ensures (whole_never field_text (λ n. n < 256) _ c.in_err-tag.ensures)
+pub returns-in_err-tag_field : goal.returns-in_err-tag_field
+returns-in_err-tag_field c = rw c.from_residual.ensures (whole_never field_text (λ n. n < 256) _ c.in_err-tag_field.ensures)
 
-pub returns-then-tag-gt0 : goal.returns-then-tag-gt0
-returns-then-tag-gt0 c = whole_more field_text (λ n. n < 256) _ _ _ c.in_ok-tag.ensures c.if-tag-gt0.true
+pub returns : goal.returns
+returns c = whole_alone field_text (λ n. n < 256) _ _ _ c.in_ok-tag_field.ensures _ c.alone.ensures

@@ -1,5 +1,5 @@
 use Rattle.std.proofs.Common.{◌+◌, ◌-◌, ◌*◌, get_or, arith}
-use Rattle.script.proofs.Digits.{remaining_more, remaining_over, remaining_none}
+use Rattle.script.proofs.Digits.{remaining_over}
 use Rattle.script.proofs.words.digits_value.Goals as goal
 
 pub returns-in_err-checked_mul : goal.returns-in_err-checked_mul
@@ -7,21 +7,9 @@ returns-in_err-checked_mul c =
     let over = remaining_over _ _ _ _ (c.loop-c.n * 10) c.loop-c-test.true c.loop-c.invariant.1 (omega arith) in
     rw c.from_residual.ensures (λ small. c.in_err-checked_mul.ensures (omega arith))
 
-pub overflow_sub-c : goal.overflow_sub-c
-overflow_sub-c c = (remaining_more _ _ _ _ c.loop-c-test.true c.loop-c.invariant.1).0.0
-
 pub returns-in_err-n : goal.returns-in_err-n
 returns-in_err-n c =
     let d = get_or c.args.digits.now c.loop-c.c-index 0 - 48 in
     let over = remaining_over _ _ _ _ (c.loop-c.n * 10 + d) c.loop-c-test.true c.loop-c.invariant.1 (omega arith) in
     let m = c.in_ok-checked_mul.ensures in
     rw c.from_residual-in_err-n.ensures (λ small. c.in_err-n.ensures (omega arith))
-
-pub loop-c-preserved : goal.loop-c-preserved
-loop-c-preserved c =
-    let m = c.in_ok-checked_mul.ensures in
-    let a = c.in_ok-n.ensures in
-    (omega arith, rw (a.1, m.1) (remaining_more _ _ _ _ c.loop-c-test.true c.loop-c.invariant.1).1)
-
-pub returns : goal.returns
-returns c = let e = remaining_none _ _ _ _ c.loop-c-test.false c.loop-c.invariant.1 in (omega arith, e)
