@@ -1,6 +1,7 @@
 -- What `mark_of` shows. Assumes nothing.
-use Rattle.std.proofs.Common.{◌≡◌, ℕ, ◌<◌, ◌≤◌, Bool, true, false, cond, T, leb, List, length, take, drop, Some, None, sym, refl, ap, ◌∙◌, subst, ⊎_elim, arith, length-drop, length-take}
+use Rattle.std.proofs.Common.{◌≡◌, ℕ, ◌<◌, ◌≤◌, Bool, true, false, cond, T, leb, List, length, take, drop, Some, None, sym, refl, ap, ap₂, ◌∙◌, subst, ⊎_elim, arith, length-drop, length-take}
 use Rattle.std.proofs.lemmas.Bool.{cases_lt, cases_Bool, leb-true, leb-false}
+use Rattle.std.specs.Bool.{then_some}
 use Rattle.codec.specs.Bits.{all_bytes, apart, same, mark}
 use Rattle.codec.specs.Pages.{mark_in, shown, WrittenPage, TornPage, BlankPage}
 use Rattle.codec.proofs.Pages.{all_take, all_drop, page_told, torn_told, blank_told}
@@ -22,6 +23,16 @@ far t w e h =
     ⊎_elim (λ (b : leb n 1 ≡ true). absurd (omega (arith, leb-true n 1 b)))
     (λ (b : leb n 1 ≡ false). ap (λ (z : Bool). cond z (Some (mark_in t)) None) (sym b))
     (cases_Bool (leb n 1))
+
+then_cond : (b : Bool) (v : List ℕ) → then_some b v ≡ cond b (Some v) None
+then_cond true v = refl
+then_cond false v = refl
+
+-- the mark where few bits are apart, and else none
+pub shown_then : (t w : List ℕ) (n : ℕ) → w ≡ mark_in t → n ≡ apart (mark w) t → then_some (leb n 1) w ≡ shown t
+unfolding shown
+shown_then t w n e f =
+    ap₂ (λ (v : List ℕ) (m : ℕ). then_some (leb m 1) v) e (f ∙ ap (λ (v : List ℕ). apart (mark v) t) e) ∙ then_cond (leb (apart (mark (mark_in t)) t) 1) (mark_in t)
 
 mark_bytes : (t : List ℕ) → T (all_bytes t) → T (all_bytes (mark_in t))
 unfolding mark_in

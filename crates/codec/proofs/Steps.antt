@@ -1,11 +1,14 @@
 -- The steps of the loops over a page's pieces. Assumes nothing.
-use Rattle.std.proofs.Common.{◌≡◌, ℕ, zero, suc, ◌+◌, ◌-◌, ◌*◌, ◌/◌, ◌%◌, ◌^◌, ◌<◌, ◌≤◌, eqb, List, [], ◌∷◌, ◌++◌, length, get_or, take, drop, set, sym, refl, ap, ◌∙◌, subst, ap₂, append_assoc, pow-suc, add-one, arith, length-drop, length-take}
+use Rattle.std.proofs.Common.{true, ◌≡◌, ℕ, zero, suc, ◌+◌, ◌-◌, ◌*◌, ◌/◌, ◌%◌, ◌^◌, ◌<◌, ◌≤◌, eqb, ◌⊎◌, Option, Some, None, ⊎_elim, List, [], ◌∷◌, ◌++◌, length, get_or, take, drop, sym, refl, ap, ◌∙◌, subst, ap₂, append_assoc, pow-suc, add-one, arith, length-drop, length-take}
 use borrow.Rule.Slice.PartMut.{put_mid}
-use lib.Bits.{bit_xor, xor_mod, xor_shr, xor_lt}
-use lib.Count.{ones, ones_step, ones-ones, ones-le}
-use Rattle.std.proofs.lemmas.List.{append-nil, get_or-drop, drop-drop, length-set, take_more, take_more_set, map_more}
+use lib.Bits.{bit_xor, xor_mod, xor_shr}
+use lib.Count.{ones, ones_step, ones-ones}
+use Rattle.std.proofs.lemmas.List.{append-nil, get_or-drop, drop-drop, length-set}
 use Rattle.std.proofs.lemmas.Slice.{take-put_mid, drop-put_mid}
-use Rattle.codec.specs.Bits.{apart_bits, apart, turned}
+use Rattle.std.specs.Iterator.{Yields}
+use Rattle.std.specs.Iterator.Runs.{Run, YieldsRun}
+use Rattle.std.specs.List.{fold}
+use Rattle.codec.specs.Bits.{apart_bits, apart}
 use Rattle.codec.proofs.Marks.{fails}
 use Rattle.codec.specs.Mending.{column, places, mended}
 use Rattle.codec.specs.Pages.{repaired, checks_in, data_in}
@@ -91,30 +94,43 @@ apart_ones (suc n) a b h k =
     ap₂ (λ x y. x + y) (sym (digit (a % 2) (b % 2) (omega arith) (omega arith))) ih
     ∙ sym (ones_step (bit_xor a b) ∙ ap₂ (λ x y. x + ones y) (xor_mod a b 1) (xor_shr a b 1))
 
-apart_push : (a b : List ℕ) (x y : ℕ) → length a ≡ length b → apart (a ++ x ∷ []) (b ++ y ∷ []) ≡ apart a b + apart_bits 8 x y
+-- what the differences of two rows sum up to, taken one after another from the front
+sum_apart_from : {S : Type 0} (steps : S → Option ℕ → S → Type 0) (left right : S → List ℕ)
+    → ((s : S) (n : ℕ) (t : S) → steps s (Some n) t → (x : ℕ) × (y : ℕ) × (left s ≡ x ∷ left t) × (right s ≡ y ∷ right t) × (n ≡ ones (bit_xor x y)))
+    → ((s t : S) → steps s None t → (length (left s) ≡ 0) ⊎ (length (right s) ≡ 0))
+    → (xs a b : List ℕ) (n : ℕ) (s t u : S) → Yields steps s xs t → steps t None u → left s ≡ a → right s ≡ b → length a ≡ length b
+    → ((k : ℕ) → get_or a k 0 < 256) → ((k : ℕ) → get_or b k 0 < 256) → fold (λ m x. m + x) n xs ≡ n + apart a b
 unfolding apart
-apart_push [] [] x y e = omega arith
-apart_push [] (z ∷ b) x y e = absurd (omega arith)
-apart_push (z ∷ a) [] x y e = absurd (omega arith)
-apart_push (z ∷ a) (w ∷ b) x y e = omega (arith, apart_push a b x y (omega arith))
+sum_apart_from steps left right more end [] [] [] n s t u y z ea eb l ha hb = omega arith
+sum_apart_from steps left right more end [] [] (w ∷ b) n s t u y z ea eb l ha hb = absurd (omega arith)
+sum_apart_from steps left right more end [] (v ∷ a) b n s t u y z ea eb l ha hb =
+    absurd (⊎_elim (λ (k : length (left t) ≡ 0). omega (arith, k, ap (λ r. length (left r)) y, ap length ea))
+    (λ (k : length (right t) ≡ 0). omega (arith, k, ap (λ r. length (right r)) y, ap length eb, l)) (end t u z))
+sum_apart_from steps left right more end (x ∷ xs) [] b n s t u y z ea eb l ha hb =
+    let m = more s x y.0 y.1 in absurd (omega (arith, ap length ea, ap length m.2))
+sum_apart_from steps left right more end (x ∷ xs) (v ∷ a) [] n s t u y z ea eb l ha hb = absurd (omega arith)
+sum_apart_from steps left right more end (x ∷ xs) (v ∷ a) (w ∷ b) n s t u y z ea eb l ha hb =
+    let m = more s x y.0 y.1 in
+    let e : v ∷ a ≡ m.0 ∷ left y.0 = sym ea ∙ m.2 in
+    let f : w ∷ b ≡ m.1 ∷ right y.0 = sym eb ∙ m.3 in
+    let g : left y.0 ≡ a = cc in
+    let h : right y.0 ≡ b = cc in
+    let k : x ≡ ones (bit_xor v w) = cc m.4 in
+    omega (arith, sum_apart_from steps left right more end xs a b (n + x) y.0 t u y.2 z g h (omega arith) (λ i. ha (suc i)) (λ i. hb (suc i)), apart_ones 8 v w (ha 0) (hb 0), k)
 
-pub apart_more : (a b : List ℕ) (i : ℕ) → length a ≡ length b → i < length a → get_or a i 0 < 256 → get_or b i 0 < 256
-    → apart (take (i + 1) a) (take (i + 1) b) ≡ apart (take i a) (take i b) + ones (bit_xor (get_or a i 0) (get_or b i 0))
-apart_more a b i l h f g =
-    ap₂ apart (take_more a i 0 h) (take_more b i 0 (omega arith)) ∙ apart_push (take i a) (take i b) (get_or a i 0) (get_or b i 0) (omega (arith, length-take i a, length-take i b))
-    ∙ ap (λ x. apart (take i a) (take i b) + x) (apart_ones 8 (get_or a i 0) (get_or b i 0) f g)
-
-pub xor_ones_le : (a b : ℕ) → a < 256 → b < 256 → ones (bit_xor a b) ≤ 8
-xor_ones_le a b f g = ones-le 8 (bit_xor a b) (xor_lt 8 a b f g)
+-- the same of a run that went on to its end
+pub sum_apart : {S : Type 0} {steps : S → Option ℕ → S → Type 0} (p : Run steps) (left right : S → List ℕ) (a b : List ℕ) → p.whole ≡ true → left p.from ≡ a → right p.from ≡ b → length a ≡ length b
+    → ((k : ℕ) → get_or a k 0 < 256) → ((k : ℕ) → get_or b k 0 < 256)
+    → ((s : S) (n : ℕ) (t : S) → steps s (Some n) t → (x : ℕ) × (y : ℕ) × (left s ≡ x ∷ left t) × (right s ≡ y ∷ right t) × (n ≡ ones (bit_xor x y)))
+    → ((s t : S) → steps s None t → (length (left s) ≡ 0) ⊎ (length (right s) ≡ 0))
+    → fold (λ m x. m + x) 0 p.items ≡ apart a b
+unfolding YieldsRun
+sum_apart {S} {steps} p left right a b w ea eb l ha hb more end =
+    let d = p.gave.0 in
+    let z = d.2 w in
+    omega (arith, sum_apart_from steps left right more end p.items a b 0 p.from d.0 z.0 d.1 z.1 ea eb l ha hb)
 
 -- ---- a page is filled from its front
 
 pub put_done : (at k n : ℕ) (page v w : List ℕ) → at + length w ≤ length page → v ≡ w → n ≡ length w → take (at + n) (put_mid at k page v) ≡ take at page ++ w
 put_done at k n page v w h e f = take-put_mid at k page v (at + n) (omega (arith, ap length e)) (omega arith) ∙ ap (λ x. take at page ++ x) e
-
-pub turned_more : (at i : ℕ) (page page0 v : List ℕ) (y : ℕ) → at + i < length page → i < length v → y ≡ 255 - get_or v i 0 → take (at + i) page ≡ take at page0 ++ turned (take i v)
-    → take (at + (i + 1)) (set page (at + i) y) ≡ take at page0 ++ turned (take (i + 1) v)
-turned_more at i page page0 v y h k is e =
-    let n : at + (i + 1) ≡ at + i + 1 = omega arith in
-    ap (λ m. take m (set page (at + i) y)) n ∙ take_more_set page (at + i) y h ∙ ap₂ (λ (x : List ℕ) (z : ℕ). x ++ z ∷ []) e is
-    ∙ append_assoc (take at page0) (turned (take i v)) ((255 - get_or v i 0) ∷ []) ∙ ap (λ x. take at page0 ++ x) (sym (map_more (λ (b : ℕ). 255 - b) v i 0 k))

@@ -1,10 +1,31 @@
 -- The steps of the functions that write a page. Assumes nothing.
-use Rattle.std.proofs.Common.{◌≡◌, ℕ, zero, suc, ◌+◌, ◌-◌, ◌*◌, ◌<◌, ◌≤◌, Bool, true, false, cond, T, List, [], ◌∷◌, ◌++◌, length, take, drop, set, replicate, sym, refl, ap, ◌∙◌, subst, ap₂, append_assoc, add-one, arith, length-drop}
-use Rattle.std.proofs.lemmas.List.{drop-drop, drop-take, take_more_set, drop-set-add, take_all, take_at, take-take, length-take-le, length-set}
+use Rattle.std.proofs.Common.{◌≡◌, ℕ, zero, suc, ◌+◌, ◌-◌, ◌*◌, ◌<◌, ◌≤◌, Bool, true, false, cond, T, List, [], ◌∷◌, ◌++◌, length, get_or, ⊎_elim, take, drop, set, replicate, sym, refl, ap, ◌∙◌, subst, ap₂, append_assoc, add-one, arith, length-drop}
+use Rattle.std.proofs.lemmas.List.{get_or-map, length-map, drop-drop, drop-take, take_more_set, drop-set-add, take_all, take_at, take-take, length-take-le, length-set}
+use Rattle.std.proofs.lemmas.Bool.{cases_lt}
+use Rattle.std.proofs.lemmas.Grind.{same_number_lists}
+use denote.Param.Members.{Mut, Called}
+use Rattle.std.specs.Array.{IsFromFnResult, IsFromFnResultFrom}
 use Rattle.codec.specs.Bits.{all_bytes, same, turned, mark}
 use Rattle.codec.specs.Mending.{column, places}
 use Rattle.codec.specs.Pages.{checks, guarded, rest, paged, mark_in}
 use Rattle.codec.proofs.Pages.{same_is, same_refl, all_take}
+
+-- what a function of the index makes, where each call gives h of its index and leaves the function as it was
+each_made : {F : Type 0} (g : Mut F (ℕ × Unit {0}) ℕ) (h : ℕ → ℕ) (f : F) → ((i y : ℕ) (q : F) → Called g f (i, tt) y q → (q ≡ f) × (y ≡ h i))
+    → (ys : List ℕ) (n i : ℕ) → IsFromFnResultFrom g f ys i n → (k : ℕ) → i ≤ k → k < i + n → get_or ys k 0 ≡ h k
+each_made g h f acts ys zero i m k lo hi = absurd (omega arith)
+each_made g h f acts ys (suc n) i m k lo hi =
+    let c = acts i m.1 m.0 m.3 in
+    ⊎_elim
+    (λ (l : i < k). each_made g h f acts ys n (i + 1) (subst (λ q. IsFromFnResultFrom g q ys (i + 1) n) c.0 m.4) k (omega arith) (omega arith))
+    (λ (l : k ≤ i). let e : k ≡ i = omega arith in rw e (m.2.1 0 ∙ c.1))
+    (cases_lt i k)
+
+-- the complements of bytes, made one by one
+pub turned_made : {F : Type 0} (g : Mut F (ℕ × Unit {0}) ℕ) (f : F) (v ys : List ℕ) → IsFromFnResult g f ys 32 → length v ≡ 32 → ((i y : ℕ) (q : F) → Called g f (i, tt) y q → (q ≡ f) × (y ≡ 255 - get_or v i 0)) → ys ≡ turned v
+turned_made g f v ys m long acts =
+    same_number_lists ys (turned v) (omega (arith, m.long, length-map v (λ b. 255 - b)))
+    (λ k l. each_made g (λ i. 255 - get_or v i 0) f acts ys 32 0 m.each k (omega arith) (omega (arith, m.long)) ∙ sym (get_or-map (λ b. 255 - b) v k 0 0 (omega (arith, m.long))))
 
 pub put_mark_done : (a : ℕ) (v p q r s t u w : List ℕ) → length v ≡ 32
     → take (a + length v) q ≡ take a p ++ v → take (a + 32 + length v) r ≡ take (a + 32) q ++ v → take (a + 64 + length v) s ≡ take (a + 64) r ++ v

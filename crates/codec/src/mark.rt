@@ -3,6 +3,8 @@ ghost use Rattle.std.specs.Prelude.{◌≡◌, ◌+◌, ◌≤◌, ◌++◌, len
 ghost use Rattle.codec.specs.Bits.{apart, turned, mark};
 ghost use Rattle.codec.specs.Pages.{mark_in, shown};
 
+use std::array;
+
 // How many bits of a mark may be turned over.
 const MOST_TURNED: usize = 1;
 
@@ -11,11 +13,10 @@ pub fn bits_apart(a: &[u8], b: &[u8]) -> usize
     requires { (length a.now ≡ length b.now) × (length a.now ≤ 4352) }
     ensures { result ≡ apart a.now b.now }
 {
-    let mut n: usize = 0;
-    for i in 0..a.len() {
-        n += (a[i] ^ b[i]).count_ones() as usize;
-    }
-    n
+    a.iter()
+        .zip(b.iter())
+        .map(|(x, y)| (*x ^ *y).count_ones() as usize)
+        .sum()
 }
 
 // Writes bytes at `at`.
@@ -26,14 +27,12 @@ pub fn write_at(page: &mut [u8], at: usize, bytes: &[u8])
     page[at..at + bytes.len()].copy_from_slice(bytes);
 }
 
-// Writes the complements of bytes at `at`.
-fn write_complement(page: &mut [u8], at: usize, bytes: &[u8])
-    requires { (at + length bytes.now ≤ length page.old) × (length page.old ≤ 4352) }
-    ensures { take (at + length bytes.now) page.new ≡ take at page.old ++ turned bytes.now }
+// The complements of 32 bytes.
+fn complement(bytes: &[u8]) -> [u8; 32]
+    requires { length bytes.now ≡ 32 }
+    ensures { result ≡ turned bytes.now }
 {
-    for i in 0..bytes.len() {
-        page[at + i] = 255 - bytes[i];
-    }
+    array::from_fn(|i| 255 - bytes[i])
 }
 
 // Writes a mark at `at`.
@@ -44,23 +43,23 @@ pub fn write_mark(page: &mut [u8], at: usize, bytes: &[u8])
     write_at(page, at, bytes);
     write_at(page, at + 32, bytes);
     write_at(page, at + 64, bytes);
-    write_complement(page, at + 96, bytes);
-    write_complement(page, at + 128, bytes);
-    write_complement(page, at + 160, bytes);
+    let turned = complement(bytes);
+    write_at(page, at + 96, &turned);
+    write_at(page, at + 128, &turned);
+    write_at(page, at + 160, &turned);
 }
 
 // The only bytes that can stand in a mark with at most one bit turned over.
-fn candidate(area: &[u8]) -> [u8; 32]
+fn candidate(area: &[u8]) -> &[u8]
     requires { length area.now ≡ 192 }
-    ensures { result ≡ mark_in area.now }
+    ensures long { length result.now ≡ 32 }
+    ensures only { result.now ≡ mark_in area.now }
 {
-    let mut bytes = [0u8; 32];
     if area[0..32] == area[32..64] {
-        bytes.copy_from_slice(&area[0..32]);
+        &area[0..32]
     } else {
-        bytes.copy_from_slice(&area[64..96]);
+        &area[64..96]
     }
-    bytes
 }
 
 // The bytes of the mark that 192 bytes show, or None where they differ in two bits or more from every mark.
@@ -68,12 +67,9 @@ pub fn read_mark(area: &[u8]) -> Option<[u8; 32]>
     requires { length area.now ≡ 192 }
     ensures { result ≡ shown area.now }
 {
-    let bytes = candidate(area);
+    let mut bytes = [0u8; 32];
+    bytes.copy_from_slice(candidate(area));
     let mut whole = [0u8; 192];
     write_mark(&mut whole, 0, &bytes);
-    if bits_apart(&whole, area) <= MOST_TURNED {
-        Some(bytes)
-    } else {
-        None
-    }
+    (bits_apart(&whole, area) <= MOST_TURNED).then_some(bytes)
 }

@@ -7,17 +7,18 @@ use crate::check::{Parity, mend, parity_of};
 use crate::mark::{read_mark, write_at, write_mark};
 
 // The parities of 16 pieces, behind a byte that makes their sum 0.
-fn parities(pieces: &[u8], out: &mut [u8])
-    requires { (4096 ≤ length pieces.now) × ((length pieces.now ≤ 4352) × (length out.old ≡ 33)) }
-    ensures { out.new ≡ guarded pieces.now }
+fn parities(pieces: &[u8]) -> [u8; 33]
+    requires { (4096 ≤ length pieces.now) × (length pieces.now ≤ 4352) }
+    ensures { result ≡ guarded pieces.now }
 {
+    let mut checks = [0u8; 33];
     for i in 0..16usize {
         let parity = parity_of(&pieces[256 * i..256 * i + 256]);
-        out[2 * i + 1] = parity.sum;
-        out[2 * i + 2] = parity.index;
+        checks[2 * i + 1] = parity.sum;
+        checks[2 * i + 2] = parity.index;
     }
-    let all = parity_of(&out[1..33]);
-    out[0] = all.sum;
+    checks[0] = parity_of(&checks[1..33]).sum;
+    checks
 }
 
 // Writes the mark and the check bytes behind 4,096 bytes of data.
@@ -26,8 +27,7 @@ pub fn seal(page: &mut [u8], mark: &[u8])
     ensures sealed { page.new ≡ paged mark.now (take 4096 page.old) }
     ensures bytes { (T (all_bytes mark.now)) × (T (all_bytes (take 4096 page.old))) }
 {
-    let mut checks = [0u8; 33];
-    parities(page, &mut checks);
+    let checks = parities(page);
     let all = parity_of(&checks);
     write_mark(page, 4096, mark);
     write_at(page, 4288, &checks);

@@ -13,8 +13,8 @@ returns c =
     let h = c.parity_of-all.result.index in
     let last = c.write_at-2.new.page in
     let s : last ≡ paged mark (take 4096 page) =
-    seal_done mark page c.write_mark.new.page c.write_at.new.page last c.parities.new.out h
-    (omega arith) (omega arith) (omega (arith, length-set c.write_at.new.page 4321 h)) (omega arith) c.parities.ensures c.parity_of-all.ensures.index
+    seal_done mark page c.write_mark.new.page c.write_at.new.page last c.parities-checks.result h
+    (omega arith) (omega arith) (omega (arith, length-set c.write_at.new.page 4321 h)) (omega arith) c.parities-checks.ensures c.parity_of-all.ensures.index
     (search rules) (search rules) (search rules) in
     record {
       sealed = s;
