@@ -1,6 +1,6 @@
 -- The steps of the functions that write a page. Assumes nothing.
-use Rattle.std.proofs.Common.{◌≡◌, ℕ, zero, suc, ◌+◌, ◌-◌, ◌*◌, ◌<◌, ◌≤◌, Bool, true, false, cond, T, List, [], ◌∷◌, ◌++◌, length, get_or, ⊎_elim, take, drop, set, replicate, sym, refl, ap, ◌∙◌, subst, ap₂, append_assoc, add-one, arith, length-drop}
-use Rattle.std.proofs.lemmas.List.{get_or-map, length-map, drop-drop, drop-take, take_more_set, drop-set-add, take_all, take_at, take-take, length-take-le, length-set}
+use Rattle.std.proofs.Common.{◌≡◌, ℕ, zero, suc, ◌+◌, ◌-◌, ◌*◌, ◌<◌, ◌≤◌, Bool, true, false, cond, T, List, [], ◌∷◌, ◌++◌, length, get_or, ⊎_elim, take, drop, set, replicate, sym, refl, ap, ◌∙◌, subst, ap₂, append_assoc, add-one, arith, length-append, length-drop, length-take}
+use Rattle.std.proofs.lemmas.List.{get_or-map, length-map, drop-drop, drop-take, take_more_set, drop-set-add, take_all, take_at, drop_at, take-take, length-take-le, length-set}
 use Rattle.std.proofs.lemmas.Bool.{cases_lt}
 use Rattle.std.proofs.lemmas.Grind.{same_number_lists}
 use denote.Param.Members.{Mut, Called}
@@ -53,11 +53,26 @@ checks-suc (suc n) d =
     ap (λ x. column (take 256 d) ∷ places 0 (take 256 d) ∷ x)
     (checks-suc n (drop 256 d) ∙ ap (λ x. checks n (drop 256 d) ++ column (take 256 x) ∷ places 0 (take 256 x) ∷ []) s)
 
+-- the next chunk of what is left of 16 pieces
+pub chunk_next : (d piece more left : List ℕ) (i : ℕ) → 4096 ≤ length d → left ≡ drop (256 * i) (take 4096 d) → left ≡ piece ++ more → length piece ≡ 256
+    → (i < 16) × (piece ≡ take 256 (drop (256 * i) d)) × (more ≡ drop (256 * (i + 1)) (take 4096 d))
+chunk_next d piece more left i h e f l =
+    let long = length-take 4096 d in
+    let n : length left ≡ 4096 - 256 * i = omega (arith, ap length e, length-drop (256 * i) (take 4096 d)) in
+    let p : i < 16 = omega (arith, ap length f, length-append piece more) in
+    let k : 4096 ≡ 256 * i + (4096 - 256 * i) = omega arith in
+    let m : 256 * i + 256 ≡ 256 * (i + 1) = omega arith in
+    let c : left ≡ take (4096 - 256 * i) (drop (256 * i) d) = e ∙ ap (λ z. drop (256 * i) (take z d)) k ∙ drop-take (256 * i) (4096 - 256 * i) d in
+    (
+      p,
+      sym (take_at piece more 256 l) ∙ ap (take 256) (sym f ∙ c) ∙ take-take 256 (4096 - 256 * i) (drop (256 * i) d) (omega arith),
+      sym (drop_at piece more 256 l) ∙ ap (drop 256) (sym f ∙ e) ∙ drop-drop 256 (256 * i) (take 4096 d) ∙ ap (λ z. drop z (take 4096 d)) m,
+    )
+
 pub guard_more : (i : ℕ) (out d : List ℕ) (x y : ℕ) → length out ≡ 33 → i < 16 → take (2 * i) (drop 1 out) ≡ checks i d
-    → x ≡ column (take (256 * i + 256 - 256 * i) (drop (256 * i) d)) → y ≡ places 0 (take (256 * i + 256 - 256 * i) (drop (256 * i) d))
+    → x ≡ column (take 256 (drop (256 * i) d)) → y ≡ places 0 (take 256 (drop (256 * i) d))
     → take (2 * (i + 1)) (drop 1 (set (set out (2 * i + 1) x) (2 * i + 2) y)) ≡ checks (i + 1) d
 guard_more i out d x y l h e ex ey =
-    let k : 256 * i + 256 - 256 * i ≡ 256 = omega arith in
     let a : 2 * i + 1 ≡ 1 + 2 * i = omega arith in
     let b : 2 * i + 2 ≡ 1 + (2 * i + 1) = omega arith in
     let n : 2 * (i + 1) ≡ 2 * i + 1 + 1 = omega arith in
@@ -70,7 +85,7 @@ guard_more i out d x y l h e ex ey =
     ap₂ take n s1 ∙ take_more_set (set o (2 * i) x) (2 * i + 1) y (omega arith)
     ∙ ap (λ z. z ++ y ∷ []) (take_more_set o (2 * i) x (omega arith) ∙ ap (λ z. z ++ x ∷ []) e)
     ∙ append_assoc (checks i d) (x ∷ []) (y ∷ [])
-    ∙ ap₂ (λ p q. checks i d ++ p ∷ q ∷ []) (ex ∙ ap (λ m. column (take m (drop (256 * i) d))) k) (ey ∙ ap (λ m. places 0 (take m (drop (256 * i) d))) k)
+    ∙ ap₂ (λ p q. checks i d ++ p ∷ q ∷ []) ex ey
     ∙ sym (checks-suc i d) ∙ ap (λ m. checks m d) (sym (add-one i))
 
 pub guard_done : (i : ℕ) (out d : List ℕ) (x : ℕ) → length out ≡ 33 → i ≡ 16 → take (2 * i) (drop 1 out) ≡ checks i d → x ≡ column (take 32 (drop 1 out)) → set out 0 x ≡ guarded d

@@ -12,8 +12,8 @@ fn parities(pieces: &[u8]) -> [u8; 33]
     ensures { result ≡ guarded pieces.now }
 {
     let mut checks = [0u8; 33];
-    for i in 0..16usize {
-        let parity = parity_of(&pieces[256 * i..256 * i + 256]);
+    for (i, piece) in pieces[0..4096].chunks_exact(256).enumerate() {
+        let parity = parity_of(piece);
         checks[2 * i + 1] = parity.sum;
         checks[2 * i + 2] = parity.index;
     }
