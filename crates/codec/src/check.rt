@@ -31,6 +31,7 @@ pub fn mend(piece: &mut [u8], parity: Parity)
 {
     let found = parity_of(piece);
     let i = parity.index as usize ^ found.index as usize;
+    // By index, since a proof doesn't know what was written through get_mut once its borrow is over.
     if i < piece.len() {
         piece[i] ^= parity.sum ^ found.sum;
     }

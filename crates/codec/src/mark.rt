@@ -21,7 +21,7 @@ pub fn bits_apart(a: &[u8], b: &[u8]) -> usize
 
 // Writes bytes at `at`.
 pub fn write_at(page: &mut [u8], at: usize, bytes: &[u8])
-    requires { (at + length bytes.now ≤ length page.old) × (length page.old ≤ 4352) }
+    requires { at + length bytes.now ≤ length page.old }
     ensures { take (at + length bytes.now) page.new ≡ take at page.old ++ bytes.now }
 {
     page[at..at + bytes.len()].copy_from_slice(bytes);
@@ -37,7 +37,7 @@ fn complement(bytes: &[u8]) -> [u8; 32]
 
 // Writes a mark at `at`.
 pub fn write_mark(page: &mut [u8], at: usize, bytes: &[u8])
-    requires { (length bytes.now ≡ 32) × ((at + 192 ≤ length page.old) × (length page.old ≤ 4352)) }
+    requires { (length bytes.now ≡ 32) × (at + 192 ≤ length page.old) }
     ensures { take (at + 192) page.new ≡ take at page.old ++ mark bytes.now }
 {
     write_at(page, at, bytes);

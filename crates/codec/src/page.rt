@@ -8,7 +8,7 @@ use crate::mark::{read_mark, write_at, write_mark};
 
 // The parities of 16 pieces, behind a byte that makes their sum 0.
 fn parities(pieces: &[u8]) -> [u8; 33]
-    requires { (4096 ≤ length pieces.now) × (length pieces.now ≤ 4352) }
+    requires { 4096 ≤ length pieces.now }
     ensures { result ≡ guarded pieces.now }
 {
     let mut checks = [0u8; 33];
@@ -21,6 +21,7 @@ fn parities(pieces: &[u8]) -> [u8; 33]
     checks
 }
 
+// Pages and marks are slices here and below, since callers lend parts of a room.
 // Writes the mark and the check bytes behind 4,096 bytes of data.
 pub fn seal(page: &mut [u8], mark: &[u8])
     requires { (length page.old ≡ 4352) × (length mark.now ≡ 32) }
@@ -49,6 +50,7 @@ pub fn unseal(page: &mut [u8])
         index: page[4321],
     };
     mend(&mut checks, parity);
+    // By index, since a proof doesn't know what was written through chunks_exact_mut once its borrow is over.
     for i in 0..16usize {
         let told = Parity {
             sum: checks[2 * i + 1],

@@ -19,7 +19,7 @@ loop-i-preserved c =
     let v = c.loop-i.invariant in
     let s = c.in-Some.ensures.steps in
     let i = c.loop-i.i-iterator.count in
-    let k = chunk_next c.args.pieces.now c.in-Some.piece.now _ _ i c.requires.0 v.4 s.0.1.0 (s.0.1.1 ∙ v.3) in
+    let k = chunk_next c.args.pieces.now c.in-Some.piece.now _ _ i c.requires v.4 s.0.1.0 (s.0.1.1 ∙ v.3) in
     let p = c.parity_of-parity.ensures in
     rw (s.1, s.2) (
       simp length-set v.0,
