@@ -1,15 +1,17 @@
 -- A chip as it comes from the maker. Assumes nothing.
-use Rattle.std.proofs.Common.{◌≡◌, ℕ, zero, suc, ◌+◌, ◌*◌, ◌<◌, ◌≤◌, Bool, true, false, cond, ◌||◌, eqb, ltb, List, [], ◌∷◌, ◌++◌, length, get_or, take, sym, refl, ap, ◌∙◌, inl, inr, arith}
-use Rattle.std.proofs.lemmas.List.{take_more}
+use Rattle.std.proofs.Common.{◌≡◌, ℕ, zero, suc, ◌+◌, ◌-◌, ◌*◌, ◌<◌, ◌≤◌, Bool, true, false, cond, ◌||◌, eqb, ltb, List, [], ◌∷◌, ◌++◌, length, get_or, take, replicate, sym, refl, ap, ◌∙◌, ap₂, inl, inr, arith}
+use Rattle.std.proofs.lemmas.List.{take_more, length-take-le, get_or-replicate, length-replicate}
+use borrow.Rule.Slice.PartMut.{put_mid}
 use Rattle.std.proofs.lemmas.Bool.{cases_Bool, cases_eq, cond-true, cond-false, lt-ltb, ltb-true, eq-eqb, ne_eqb}
 use Rattle.drive.specs.Nand.{Nand, Block, Blank, bads}
 use Rattle.bench.specs.declared.memory.PageState.{PageState}
 use Rattle.bench.specs.declared.memory.PageState.TheVariants as state
 use Rattle.bench.specs.declared.memory.BlockCell.{BlockCell}
 use Rattle.bench.specs.declared.make.Refusal.TheVariants.{TooManyBad}
-use Rattle.bench.specs.Held.{spaced, slot, state_at, cell_at, shaped, page_at, block_with, block_from, no_block, nand_of, limit}
+use Rattle.bench.specs.Held.{spaced, slot, state_at, cell_at, shaped, page_at, block_with, block_from, no_block, nand_of, untouched, limit}
 use Rattle.bench.specs.Made.{OnSheet, Fresh, Misfit, listed, marked}
-use Rattle.bench.proofs.Space.{row_end}
+use Rattle.bench.proofs.Space.{row_end, space_parts}
+use Rattle.bench.proofs.Rows.{front_long, front_at}
 use Rattle.bench.proofs.Sheet.{true_T}
 
 -- ---- the list of bad blocks
@@ -99,3 +101,51 @@ module _ (bytes : List ℕ) (states : List PageState) (cells : List BlockCell) (
   too_many space many =
       let n : chip.blocks ≡ blocks = cond-true (spaced (length bytes) (length states) (length cells) blocks pages) blocks 0 space in
       omega (arith, ap (λ (m : ℕ). bads m chip.block) n, bads-same blocks chip.block (λ k. block_with (λ p. Blank) (marked (listed bad k))) bad-is)
+
+-- ---- memory whose first states and records were written anew
+
+module _ (bytes : List ℕ) (states front : List PageState) (cells marks : List BlockCell) (blocks pages left : ℕ) (on : Bool) (bad : List ℕ)
+    (space : spaced (length bytes) (length states) (length cells) blocks pages ≡ true)
+    (blank : front ≡ replicate (length (take (blocks * pages - 0) states)) state.Blank)
+    (marks_long : length marks ≡ length (take (blocks - 0) cells)) (marks_are : (k : ℕ) → k < length (take (blocks - 0) cells) → cell_at marks k ≡ marked (listed bad k)) where
+  abbrev states' : List PageState
+  states' = put_mid 0 (blocks * pages - 0) states front
+
+  abbrev cells' : List BlockCell
+  cells' = put_mid 0 (blocks - 0) cells marks
+
+  abbrev chip' : Nand
+  chip' = nand_of bytes states' cells' blocks pages on left
+
+  states_fit : blocks * pages ≤ length states
+  states_fit = (space_parts _ _ _ _ _ space).states_fit
+
+  cells_fit : blocks ≤ length cells
+  cells_fit = (space_parts _ _ _ _ _ space).cells_fit
+
+  states_long : length (take (blocks * pages - 0) states) ≡ blocks * pages
+  states_long = omega (arith, length-take-le (blocks * pages - 0) states (omega (arith, states_fit)))
+
+  cells_long : length (take (blocks - 0) cells) ≡ blocks
+  cells_long = omega (arith, length-take-le (blocks - 0) cells (omega (arith, cells_fit)))
+
+  front_long' : length front ≡ blocks * pages
+  front_long' = ap length blank ∙ length-replicate (length (take (blocks * pages - 0) states)) state.Blank ∙ states_long
+
+  all_blank : (i : ℕ) → i < blocks * pages → state_at states' i ≡ state.Blank
+  all_blank i l =
+      front_at (blocks * pages) states front states_fit front_long' i state.Blank l ∙ ap (λ (xs : List PageState). state_at xs i) blank
+      ∙ get_or-replicate (length (take (blocks * pages - 0) states)) i state.Blank state.Blank (omega (arith, states_long))
+
+  all_marked : (k : ℕ) → k < blocks → cell_at cells' k ≡ marked (listed bad k)
+  all_marked k l = front_at blocks cells marks cells_fit (omega (arith, marks_long, cells_long)) k untouched l ∙ marks_are k (omega (arith, cells_long))
+
+  space' : spaced (length bytes) (length states') (length cells') blocks pages ≡ true
+  space' =
+      ap₂ (λ (n m : ℕ). spaced (length bytes) n m blocks pages) (front_long (blocks * pages) states front states_fit front_long') (front_long blocks cells marks cells_fit (omega (arith, marks_long, cells_long))) ∙ space
+
+  pub formatted : OnSheet blocks pages → on ≡ true → 16 * bads chip'.blocks chip'.block ≤ blocks → Fresh chip' blocks pages bad
+  formatted sheet lit few = fresh bytes states' cells' blocks pages left on bad all_blank all_marked sheet space' lit few
+
+  pub overfull : blocks < 16 * bads chip'.blocks chip'.block → Misfit TooManyBad blocks bad
+  overfull many = too_many bytes states' cells' blocks pages left on bad all_blank all_marked space' many

@@ -1,5 +1,6 @@
 pub mod Slots
 pub mod Space
+pub mod Rows
 pub mod Frames
 pub mod Sheet
 pub mod Tallies

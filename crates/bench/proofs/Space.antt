@@ -43,3 +43,11 @@ inside b s c n w k h =
           record { low = low; pages_low = parts.pages_few; cell = omega arith; state = omega arith; byte = omega arith }
       | inr e ↦ absurd (omega (arith, ap (λ (t : Bool). cond t n 0) e))
     ]
+
+-- the memory has a record for each block
+pub cells_enough : (bytes states cells blocks pages : ℕ) → cond (spaced bytes states cells blocks pages) blocks 0 ≤ cells
+cells_enough b s c n w =
+    elim (cases_Bool (spaced b s c n w)) [
+      | inl e ↦ omega (arith, ap (λ (t : Bool). cond t n 0) e, (space_parts b s c n w e).cells_fit)
+      | inr e ↦ omega (arith, ap (λ (t : Bool). cond t n 0) e)
+    ]

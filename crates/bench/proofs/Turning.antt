@@ -1,5 +1,5 @@
 -- Bits that are turned over or raised. Assumes nothing.
-use Rattle.std.proofs.Common.{◌≡◌, ℕ, zero, suc, ◌+◌, ◌*◌, ◌/◌, ◌%◌, ◌^◌, ◌<◌, ◌≤◌, Bool, true, false, cond, ◌&&◌, T, eqb, ltb, leb, List, [], ◌∷◌, length, get_or, take, drop, set, sym, refl, ap, ◌∙◌, subst, ap₂, inl, inr, pow-suc, arith, le→leb, lt→ltb}
+use Rattle.std.proofs.Common.{◌≡◌, ℕ, zero, suc, ◌+◌, ◌*◌, ◌/◌, ◌%◌, ◌^◌, ◌<◌, ◌≤◌, Bool, true, false, cond, ◌&&◌, T, eqb, ltb, leb, List, [], ◌∷◌, length, get_or, take, drop, set, sym, refl, ap, ◌∙◌, subst, ap₂, inl, inr, Fits, w8, pow-suc, rules, arith, le→leb, lt→ltb}
 use lib.Bits.{bit_or, bit_xor, or_step, xor_mod, xor_shr, xor_zero_r}
 use lib.Seq.{take-set-lt}
 use Rattle.std.proofs.lemmas.List.{get_or-drop, get_or-take, drop-drop, drop-set-lt, drop-set-add, take-set-le, get_or-set_same, get_or-set_other}
@@ -12,10 +12,11 @@ from_both : (a b : Bool) → T a → T b → T (a && b)
 from_both true b h k = k
 from_both false b h k = h
 
-pub all_each : (s : List ℕ) → ((i : ℕ) → get_or s i 0 < 256) → T (all_bytes s)
+-- bytes are below 256
+pub all_fit : (s : List ℕ) → ((i : ℕ) → Fits w8 (get_or s i 0)) → T (all_bytes s)
 unfolding every
-all_each [] h = tt
-all_each (x ∷ s) h = from_both (ltb x 256) (all_bytes s) (lt→ltb x 256 (h 0)) (all_each s (λ i. h (suc i)))
+all_fit [] h = tt
+all_fit (x ∷ s) h = from_both (ltb x 256) (all_bytes s) (lt→ltb x 256 (let f = h 0 in let g : x < 256 = search rules in g)) (all_fit s (λ i. h (suc i)))
 
 -- ---- raised
 

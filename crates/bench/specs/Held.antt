@@ -6,6 +6,8 @@ use Rattle.drive.specs.declared.Answer.TheVariants.{Fine, Failed, Dark}
 use Rattle.bench.specs.declared.memory.PageState.{PageState}
 use Rattle.bench.specs.declared.memory.PageState.TheVariants as state
 use Rattle.bench.specs.declared.memory.BlockCell.{BlockCell}
+use Rattle.bench.specs.declared.memory.ChipMemory.{ChipMemory}
+use Rattle.bench.specs.declared.memory.Geometry.{Geometry}
 
 -- the counter's limit: a block that was erased so often is bad
 abbrev pub limit : ℕ
@@ -27,21 +29,25 @@ untouched = record { next = 0; clean = false; bad = false; erases = 0 }
 abbrev pub cell_at : List BlockCell → ℕ → BlockCell
 cell_at cells k = slice_index_or cells k untouched
 
+-- whether a block is bad by its record: after a failure, or where its counter has ended
+abbrev pub bad_cell : BlockCell → Bool
+bad_cell c = c.bad || (c.erases == limit)
+
 -- the record of a block after an erasing
 abbrev pub erased_cell : BlockCell → BlockCell
-erased_cell c = record { next = 0; clean = true; bad = c.bad; erases = c.erases + 1 }
+erased_cell c = record c { next = 0; clean = true; erases = c.erases + 1 }
 
 -- the record of a block after an erasing that didn't end
 abbrev pub half_erased_cell : BlockCell → BlockCell
-half_erased_cell c = record { next = c.next; clean = false; bad = c.bad; erases = c.erases + 1 }
+half_erased_cell c = record c { clean = false; erases = c.erases + 1 }
 
 -- the record of a block after the programming of page p
 abbrev pub programmed_cell : ℕ → BlockCell → BlockCell
-programmed_cell p c = record { next = p + 1; clean = c.clean; bad = c.bad; erases = c.erases }
+programmed_cell p c = record c { next = p + 1 }
 
 -- the record of a block after a failure
 abbrev pub broken_cell : BlockCell → BlockCell
-broken_cell c = record { next = c.next; clean = false; bad = true; erases = c.erases }
+broken_cell c = record c { clean = false; bad = true }
 
 -- the state of a page of a block whose erasing didn't end
 abbrev pub frayed_state : PageState → PageState
@@ -91,7 +97,7 @@ page_at bytes states i = shaped (state_at states i) (slot bytes i)
 
 -- the block of these pages and this record
 abbrev pub block_with : (ℕ → Page) → BlockCell → Block
-block_with page c = record { page = page; next = c.next; clean = c.clean; erases = c.erases; bad = c.bad || (c.erases == limit) }
+block_with page c = record { page = page; next = c.next; clean = c.clean; erases = c.erases; bad = bad_cell c }
 
 -- the block of this record whose pages stand from place i on
 abbrev pub block_from : List ℕ → List PageState → (pages i : ℕ) → BlockCell → Block
@@ -104,6 +110,10 @@ no_block = record { page = λ p. Blank; next = 0; clean = false; erases = 0; bad
 -- whether memory of these lengths has space for a chip of a geometry
 unfoldable pub spaced : (bytes states cells blocks pages : ℕ) → Bool
 spaced bytes states cells blocks pages = nat_le blocks 65536 && (nat_le pages 256 && (nat_le blocks cells && (nat_le (blocks * pages) states && nat_le (4352 * (blocks * pages)) bytes)))
+
+-- whether memory has space for a chip of a geometry
+abbrev pub fits : ChipMemory → Geometry → Bool
+fits m g = spaced (length m.bytes.now) (length m.states.now) (length m.cells.now) g.blocks g.pages
 
 -- the chip; one whose memory has no space for it has no blocks
 abbrev pub nand_of : List ℕ → List PageState → List BlockCell → (blocks pages : ℕ) → (on : Bool) → (left : ℕ) → Nand

@@ -1,12 +1,13 @@
 -- How chips come to be.
 use Rattle.std.specs.Prelude.{◌≡◌, ℕ, ◌*◌, ◌%◌, ◌<◌, ◌≤◌, Bool, true, false, ◌||◌, ◌⊎◌, List, [], ◌∷◌, length, ◌==◌, ◌≢◌, slice_index}
 use Rattle.drive.specs.Nand.{Nand, Blank, New, bads}
-use Rattle.bench.specs.declared.memory.PageState.{PageState}
 use Rattle.bench.specs.declared.memory.BlockCell.{BlockCell}
 use Rattle.bench.specs.declared.make.Refusal.{Refusal}
 use Rattle.bench.specs.declared.make.Refusal.TheVariants.{Blocks, Pages, Space, NoSuchBlock, TooManyBad}
+use Rattle.bench.specs.declared.memory.ChipMemory.{ChipMemory}
+use Rattle.bench.specs.declared.memory.Geometry.{Geometry}
 use Rattle.bench.specs.declared.store.Store.{Store}
-use Rattle.bench.specs.Held.{spaced, block_with}
+use Rattle.bench.specs.Held.{fits, block_with}
 
 -- a geometry of the data sheet
 pub record OnSheet (blocks pages : ℕ) : Type 0 where
@@ -17,24 +18,21 @@ pub record OnSheet (blocks pages : ℕ) : Type 0 where
   pub eights : pages % 8 ≡ 0
 
 -- a store over memory that is as it was lent
-pub record Resumed (s : Store) (bytes : List ℕ) (states : List PageState) (cells : List BlockCell) (blocks pages : ℕ) : Type 0 where
-  pub bytes_are : s.bytes.now ≡ bytes
-  pub states_are : s.states.now ≡ states
-  pub cells_are : s.cells.now ≡ cells
-  pub blocks_are : s.blocks ≡ blocks
-  pub pages_are : s.pages ≡ pages
+pub record Resumed (s : Store) (m : ChipMemory) (g : Geometry) : Type 0 where
+  pub memory_is : s.memory ≡ m
+  pub geometry_is : s.geometry ≡ g
   pub on_is : s.on ≡ true
   pub left_is : s.left ≡ 0
-  pub sheet : OnSheet blocks pages
-  pub space : spaced (length bytes) (length states) (length cells) blocks pages ≡ true
+  pub sheet : OnSheet g.blocks g.pages
+  pub space : fits m g ≡ true
 
--- why a geometry and memory make no chip
-abbrev pub Unfit : Refusal → List ℕ → List PageState → List BlockCell → (blocks pages : ℕ) → Type 0
-Unfit Blocks bytes states cells blocks pages = (blocks < 32) ⊎ (65536 < blocks)
-Unfit Pages bytes states cells blocks pages = (pages < 16) ⊎ ((256 < pages) ⊎ (pages % 8 ≢ 0))
-Unfit Space bytes states cells blocks pages = spaced (length bytes) (length states) (length cells) blocks pages ≡ false
-Unfit NoSuchBlock bytes states cells blocks pages = ⊥
-Unfit TooManyBad bytes states cells blocks pages = ⊥
+-- why memory and a geometry make no chip
+abbrev pub Unfit : Refusal → ChipMemory → Geometry → Type 0
+Unfit Blocks m g = (g.blocks < 32) ⊎ (65536 < g.blocks)
+Unfit Pages m g = (g.pages < 16) ⊎ ((256 < g.pages) ⊎ (g.pages % 8 ≢ 0))
+Unfit Space m g = fits m g ≡ false
+Unfit NoSuchBlock m g = ⊥
+Unfit TooManyBad m g = ⊥
 
 -- whether a block's number stands in a list
 unfoldable pub listed : List ℕ → ℕ → Bool

@@ -6,7 +6,7 @@ use Rattle.bench.specs.declared.store.Store.{Store}
 
 -- the store as the data sheet has it
 abbrev pub held : Store → Nand
-held s = nand_of s.bytes.now s.states.now s.cells.now s.blocks s.pages s.on s.left
+held s = nand_of s.memory.bytes.now s.memory.states.now s.memory.cells.now s.geometry.blocks s.geometry.pages s.on s.left
 
 -- the fewest erasings of those of n blocks that aren't bad
 unfoldable pub least : ℕ → (ℕ → Block) → ℕ

@@ -1,5 +1,5 @@
 -- What a reading may show.
-use Rattle.std.specs.Prelude.{◌≡◌, ℕ, T, List}
+use Rattle.std.specs.Prelude.{◌≡◌, ℕ, ◌+◌, T, List, Option, None, Some}
 use Rattle.drive.specs.Bits.{under}
 use Rattle.bench.specs.declared.tricks.Mode.{Mode}
 use Rattle.bench.specs.declared.tricks.Mode.TheVariants.{Plain, Random, Adversarial}
@@ -17,3 +17,13 @@ abbrev pub seed_of : Mode → ℕ
 seed_of Plain = 0
 seed_of (Random s) = s
 seed_of (Adversarial s) = s
+
+-- the number of the ask in whose midst the power goes, from 1 on; 0 where it goes in none
+abbrev pub ask_of : Option ℕ → ℕ
+ask_of None = 0
+ask_of (Some n) = n + 1
+
+-- of so many programmings and erasings one is to fail; 0 where none is
+abbrev pub odds_of : Option ℕ → ℕ
+odds_of None = 0
+odds_of (Some n) = n

@@ -4,10 +4,10 @@ ghost use Rattle.drive.specs.Nand.{MayFail, Shows, counted, dark};
 ghost use Rattle.drive.specs.declared.Answer.TheVariants.{Failed};
 ghost use Rattle.bench.specs.Held.{limit};
 ghost use Rattle.bench.specs.Store.{held, least, most};
+ghost use Rattle.bench.specs.Tricks.{ask_of, odds_of};
 
 use super::events::Counts;
 use super::generator::Generator;
-use super::pieces::fit;
 use super::store::Store;
 use super::tricks::{Mode, Tricks};
 use drive::{Answer, Bench, Chip};
@@ -25,18 +25,18 @@ impl MemoryChip<'_> {
     pub fn cut(&mut self, ask: u64)
         ensures now { ask ≡ 0 → held self.new.store ≡ dark (held self.old.store) }
         ensures later { 0 < ask → held self.new.store ≡ held self.old.store }
-        ensures armed { self.new.tricks.cut_in ≡ ask }
+        ensures armed { ask_of self.new.tricks.asks_before_cut ≡ ask }
     {
         if ask == 0 {
             self.store.on = false;
         }
-        self.tricks.cut_in = ask;
+        self.tricks.asks_before_cut = ask.checked_sub(1);
     }
 
     // From here on the chip chooses by this mode; what was said of a cut stays.
     pub fn choose(&mut self, mode: Mode)
         ensures same { held self.new.store ≡ held self.old.store }
-        ensures chosen { (self.new.tricks.mode ≡ mode) × (self.new.tricks.cut_in ≡ self.old.tricks.cut_in) }
+        ensures chosen { (self.new.tricks.mode ≡ mode) × (self.new.tricks.asks_before_cut ≡ self.old.tricks.asks_before_cut) }
     {
         self.tricks.mode = mode;
         self.tricks.generator = Generator { state: mode.seed() };
@@ -45,9 +45,9 @@ impl MemoryChip<'_> {
     // Where blocks may fail, of so many programmings and erasings one does; none for 0.
     pub fn set_odds(&mut self, odds: u64)
         ensures same { held self.new.store ≡ held self.old.store }
-        ensures set { self.new.tricks.odds ≡ odds }
+        ensures set { odds_of self.new.tricks.odds ≡ odds }
     {
-        self.tricks.odds = odds;
+        self.tricks.odds = (odds > 0).then_some(odds);
     }
 
     // How often each thing happened.
@@ -89,9 +89,7 @@ impl MemoryChip<'_> {
     {
         let state = self.store.fetch(block, page, into);
         self.tricks.show(state, block, into);
-        fit(into);
         self.tricks.turn(into);
-        fit(into);
     }
 
     // What comes of a programming.
@@ -101,12 +99,12 @@ impl MemoryChip<'_> {
         ensures failure { result ≡ Failed → MayFail (held self.old.store) block }
     {
         if self.tricks.goes() {
-            return Answer::Dark;
+            Answer::Dark
+        } else if self.tricks.wants_failure() && self.store.may_fail(block) {
+            Answer::Failed
+        } else {
+            Answer::Fine
         }
-        if self.tricks.wants_failure() && self.store.may_fail(block) {
-            return Answer::Failed;
-        }
-        Answer::Fine
     }
 
     // What comes of an erasing: a failure where the counter would end.
@@ -116,10 +114,11 @@ impl MemoryChip<'_> {
         ensures failure { result ≡ Failed → MayFail (held self.old.store) block }
         ensures early { (result ≢ Failed) → ((held self.old.store).block block).erases + 1 < limit }
     {
-        if self.store.is_last(block) {
-            return Answer::Failed;
+        if self.store.cell(block).is_last() {
+            Answer::Failed
+        } else {
+            self.outcome(block)
         }
-        self.outcome(block)
     }
 }
 
@@ -133,12 +132,12 @@ impl Chip for MemoryChip<'_> {
 
     // How many pages each block has.
     fn pages(&self) -> u32 {
-        self.store.pages
+        self.store.geometry.pages
     }
 
     // Whether a block is bad.
     fn is_bad(&self, block: u32) -> bool {
-        self.store.is_bad(block)
+        self.store.cell(block).is_bad()
     }
 
     // A page's bytes into `into`, with what the sheet allows to happen to them; junk where the power goes.
@@ -147,12 +146,12 @@ impl Chip for MemoryChip<'_> {
             self.read_dark(into);
             return Answer::Dark;
         }
-        let goes = self.tricks.goes();
-        self.tricks.counts.add_read(goes);
-        if goes {
+        if self.tricks.goes() {
+            self.tricks.counts.reads.note(Answer::Dark);
             self.read_dark(into);
             return Answer::Dark;
         }
+        self.tricks.counts.reads.note(Answer::Fine);
         self.show(block, page, into);
         self.store.count();
         Answer::Fine
@@ -165,7 +164,7 @@ impl Chip for MemoryChip<'_> {
             return Answer::Dark;
         }
         let answer = self.outcome(block);
-        self.tricks.counts.add_program(answer);
+        self.tricks.counts.programs.note(answer);
         self.store.program(block, page, from, answer);
         answer
     }
@@ -177,7 +176,7 @@ impl Chip for MemoryChip<'_> {
             return Answer::Dark;
         }
         let answer = self.erase_outcome(block);
-        self.tricks.counts.add_erasing(answer);
+        self.tricks.counts.erasings.note(answer);
         self.store.erase(block, answer);
         answer
     }

@@ -1,88 +1,77 @@
 // How often each thing happened: for tests, and of no weight for what a chip does.
-ghost use Rattle.std.specs.Prelude.{◌≡◌, ℕ, ◌+◌, ◌-◌, ◌^◌, min, max, if◌then◌else◌, nat_le};
+ghost use Rattle.std.specs.Prelude.{◌≡◌, ℕ, ◌-◌, max, if◌then◌else◌, nat_le};
+ghost use Rattle.bench.specs.Counted.{noted, shown};
 
 use drive::Answer;
 
-// Asks while the power was on, those among them that failed or in which the power went, bits that were turned
-// over, how torn pages were shown, how many asks were allowed last, and the most that were made of what was
-// allowed: for a turn, which is allowed at most 64, and for a coming-up, which is allowed more.
+// How often a chip was asked for one thing while the power was on, how often that failed, and how often the power
+// went in it.
+#[derive(Clone, Copy, Default)]
+pub struct Tries {
+    pub made: u64,
+    pub failed: u64,
+    pub cut: u64,
+}
+
+impl Tries {
+    // An ask that was answered so.
+    pub fn note(&mut self, answer: Answer)
+        ensures { self.new ≡ noted answer self.old }
+    {
+        self.made = self.made.saturating_add(1);
+        match answer {
+            Answer::Fine => {}
+            Answer::Failed => self.failed = self.failed.saturating_add(1),
+            Answer::Dark => self.cut = self.cut.saturating_add(1),
+        }
+    }
+}
+
+// How a reading shows a torn page: with all, some or none of its noughts.
 #[derive(Clone, Copy)]
+pub enum View {
+    Whole,
+    Part,
+    Blank,
+}
+
+// How often a torn page was shown so.
+#[derive(Clone, Copy, Default)]
+pub struct Shown {
+    pub whole: u64,
+    pub part: u64,
+    pub blank: u64,
+}
+
+impl Shown {
+    // A torn page that was shown so.
+    pub fn note(&mut self, view: View)
+        ensures { self.new ≡ shown view self.old }
+    {
+        match view {
+            View::Whole => self.whole = self.whole.saturating_add(1),
+            View::Part => self.part = self.part.saturating_add(1),
+            View::Blank => self.blank = self.blank.saturating_add(1),
+        }
+    }
+}
+
+// Asks of each kind, bits that were turned over, how torn pages were shown, how many asks were allowed last, and the
+// most that were made of what was allowed: for a turn, which is allowed at most 64, and for a coming-up, which is
+// allowed more.
+#[derive(Clone, Copy, Default)]
 pub struct Counts {
-    pub reads: u64,
-    pub programs: u64,
-    pub erasings: u64,
-    pub failed_programs: u64,
-    pub failed_erasings: u64,
-    pub cut_reads: u64,
-    pub cut_programs: u64,
-    pub cut_erasings: u64,
+    pub reads: Tries,
+    pub programs: Tries,
+    pub erasings: Tries,
     pub turned_bits: u64,
-    pub shown_whole: u64,
-    pub shown_part: u64,
-    pub shown_blank: u64,
+    pub shown: Shown,
     pub allowed: u64,
     pub most_turn: u64,
     pub most_rise: u64,
 }
 
 impl Counts {
-    // Before anything happened.
-    pub fn new() -> Counts
-        ensures { (result.reads ≡ 0) × ((result.programs ≡ 0) × (result.erasings ≡ 0)) }
-    {
-        Counts {
-            reads: 0,
-            programs: 0,
-            erasings: 0,
-            failed_programs: 0,
-            failed_erasings: 0,
-            cut_reads: 0,
-            cut_programs: 0,
-            cut_erasings: 0,
-            turned_bits: 0,
-            shown_whole: 0,
-            shown_part: 0,
-            shown_blank: 0,
-            allowed: 0,
-            most_turn: 0,
-            most_rise: 0,
-        }
-    }
-
-    // A reading, in which the power went or not.
-    pub fn add_read(&mut self, went: bool)
-        ensures { self.new.reads ≡ min (self.old.reads + 1) (2 ^ 64 - 1) }
-    {
-        self.reads = self.reads.saturating_add(1);
-        if went {
-            self.cut_reads = self.cut_reads.saturating_add(1);
-        }
-    }
-
-    // A programming that was answered so.
-    pub fn add_program(&mut self, answer: Answer)
-        ensures { self.new.programs ≡ min (self.old.programs + 1) (2 ^ 64 - 1) }
-    {
-        self.programs = self.programs.saturating_add(1);
-        match answer {
-            Answer::Fine => {}
-            Answer::Failed => self.failed_programs = self.failed_programs.saturating_add(1),
-            Answer::Dark => self.cut_programs = self.cut_programs.saturating_add(1),
-        }
-    }
-
-    // An erasing that was answered so.
-    pub fn add_erasing(&mut self, answer: Answer)
-        ensures { self.new.erasings ≡ min (self.old.erasings + 1) (2 ^ 64 - 1) }
-    {
-        self.erasings = self.erasings.saturating_add(1);
-        match answer {
-            Answer::Fine => {}
-            Answer::Failed => self.failed_erasings = self.failed_erasings.saturating_add(1),
-            Answer::Dark => self.cut_erasings = self.cut_erasings.saturating_add(1),
-        }
-    }
-
     // So many asks are allowed from here on; of those allowed before so many are left.
     pub fn allow(&mut self, asks: u64, left: u64)
         ensures turn { self.new.most_turn ≡ (if nat_le self.old.allowed 64 then max self.old.most_turn (self.old.allowed - left) else self.old.most_turn) }
@@ -96,16 +85,5 @@ impl Counts {
             self.most_rise = self.most_rise.max(made);
         }
         self.allowed = asks;
-    }
-
-    // A torn page that was shown under a mask.
-    pub fn add_shown(&mut self, mask: u8)
-        ensures { self.new.reads ≡ self.old.reads }
-    {
-        match mask {
-            0 => self.shown_whole = self.shown_whole.saturating_add(1),
-            255 => self.shown_blank = self.shown_blank.saturating_add(1),
-            _ => self.shown_part = self.shown_part.saturating_add(1),
-        }
     }
 }

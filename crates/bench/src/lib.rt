@@ -11,7 +11,7 @@ mod store;
 mod tricks;
 
 pub use chip::MemoryChip;
-pub use events::Counts;
-pub use make::{ChipMemory, Geometry, Refusal, made, resume};
-pub use memory::{BlockCell, PageState};
+pub use events::{Counts, Shown, Tries, View};
+pub use make::{Refusal, made, resume};
+pub use memory::{BlockCell, ChipMemory, Geometry, PageState};
 pub use tricks::Mode;

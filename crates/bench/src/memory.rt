@@ -1,12 +1,12 @@
 // What a chip holds: the bytes and the state of each page, and the record of each block.
-ghost use Rattle.std.specs.Prelude.{◌≡◌, ℕ, ◌+◌, ◌*◌, ◌<◌, ◌≤◌, ◌⊎◌, length, ◌≢◌};
+ghost use Rattle.std.specs.Prelude.{◌≡◌, ℕ, ◌+◌, ◌*◌, ◌<◌, ◌≤◌, length, ◌≢◌, nat_le, map};
 ghost use Rattle.drive.specs.Nand.{blank_page};
-ghost use Rattle.bench.specs.Held.{spaced, slot, state_at, cell_at, limit, untouched, erased_cell, half_erased_cell, programmed_cell, broken_cell, worn_state, worn_cell, filled_state, filled_cell, still_on};
+ghost use Rattle.bench.specs.Held.{fits, slot, limit, untouched, bad_cell, erased_cell, half_erased_cell, programmed_cell, broken_cell, worn_state, worn_cell, filled_state, filled_cell, still_on};
 
 use drive::Answer;
 
 // What became of a page since its block was last erased.
-#[derive(Clone, Copy)]
+#[derive(Clone, Copy, Debug, PartialEq, Eq)]
 pub enum PageState {
     Blank,
     Written,
@@ -15,7 +15,7 @@ pub enum PageState {
 
 // The record of a block.
 #[repr(C)]
-#[derive(Clone, Copy)]
+#[derive(Clone, Copy, Debug, Default, PartialEq, Eq)]
 pub struct BlockCell {
     pub next: u32,
     pub clean: bool,
@@ -28,12 +28,21 @@ impl BlockCell {
     pub fn untouched() -> BlockCell
         ensures { result ≡ untouched }
     {
-        BlockCell {
-            next: 0,
-            clean: false,
-            bad: false,
-            erases: 0,
-        }
+        BlockCell::default()
+    }
+
+    // Whether the block is bad: after a failure, or where its counter has ended.
+    pub(super) fn is_bad(self) -> bool
+        ensures { result ≡ bad_cell self }
+    {
+        self.bad || self.erases == u32::MAX
+    }
+
+    // Whether the next erasing is the block's last, since the counter then ends.
+    pub(super) fn is_last(self) -> bool
+        ensures { result ≡ nat_le limit (self.erases + 1) }
+    {
+        self.erases >= u32::MAX - 1
     }
 
     // After an erasing.
@@ -44,8 +53,8 @@ impl BlockCell {
         BlockCell {
             next: 0,
             clean: true,
-            bad: self.bad,
             erases: self.erases + 1,
+            ..self
         }
     }
 
@@ -66,9 +75,7 @@ impl BlockCell {
     {
         BlockCell {
             next: page + 1,
-            clean: self.clean,
-            bad: self.bad,
-            erases: self.erases,
+            ..self
         }
     }
 
@@ -101,26 +108,41 @@ impl BlockCell {
         ensures { result ≡ broken_cell self }
     {
         BlockCell {
-            next: self.next,
             clean: false,
             bad: true,
-            erases: self.erases,
+            ..self
         }
     }
 }
 
-// Whether memory of these lengths has space for a chip of a geometry.
-pub fn has_space(bytes: usize, states: usize, cells: usize, blocks: u32, pages: u32) -> bool
-    ensures { result ≡ spaced bytes states cells blocks pages }
-{
-    if blocks > 65536 || pages > 256 || blocks as usize > cells {
-        return false;
+// How many blocks a chip has, and how many pages each of them.
+#[derive(Clone, Copy, Debug, PartialEq, Eq)]
+pub struct Geometry {
+    pub blocks: u32,
+    pub pages: u32,
+}
+
+// What is lent to a chip: 4,352 bytes and a state for each page, and a record for each block.
+#[derive(Drop)]
+pub struct ChipMemory<'a> {
+    pub bytes: &'a mut [u8],
+    pub states: &'a mut [PageState],
+    pub cells: &'a mut [BlockCell],
+}
+
+impl ChipMemory<'_> {
+    // Whether it has space for a chip of a geometry.
+    #[tactic(auto, using(std::proofs::lemmas::Bool::Decides::nat_tests), unfolding(crate::specs::Held::spaced))]
+    pub(super) fn has_space(&self, geometry: Geometry) -> bool
+        ensures { result ≡ fits self.now geometry }
+    {
+        let Geometry { blocks, pages } = geometry;
+        blocks <= 65536
+            && pages <= 256
+            && blocks as usize <= self.cells.len()
+            && blocks as usize * pages as usize <= self.states.len()
+            && 4352 * (blocks as usize * pages as usize) <= self.bytes.len()
     }
-    let places = blocks as usize * pages as usize;
-    if places > states {
-        return false;
-    }
-    4352 * places <= bytes
 }
 
 // The bytes of the page at a place are those of `from`.
@@ -150,43 +172,22 @@ pub fn blank(page: &mut [u8])
     page.fill(255);
 }
 
-// The state of the page at a place.
-pub fn get_state(states: &[PageState], place: usize) -> PageState
-    requires { place < length states.now }
-    ensures { result ≡ state_at states.now place }
-{
-    states[place]
-}
-
-// The state of the page at a place is another.
-pub fn put_state(states: &mut [PageState], place: usize, state: PageState)
-    requires { place < length states.old }
-    ensures here { state_at states.new place ≡ state }
-    ensures others { (i : ℕ) → (i ≢ place) → state_at states.new i ≡ state_at states.old i }
-{
-    states[place] = state;
-}
-
 // The state of a page of a block whose erasing was answered so.
 fn worn(state: PageState, answer: Answer) -> PageState
     ensures { result ≡ worn_state answer state }
 {
     match (answer, state) {
-        (Answer::Fine, _) => PageState::Blank,
-        (_, PageState::Blank) => PageState::Blank,
+        (Answer::Fine, _) | (_, PageState::Blank) => PageState::Blank,
         (_, PageState::Written | PageState::Torn) => PageState::Torn,
     }
 }
 
 // The pages of a block whose erasing was answered so.
-pub fn wear(states: &mut [PageState], first: usize, many: usize, answer: Answer)
-    requires { first + many ≤ length states.old }
-    ensures here { (i : ℕ) → first ≤ i → i < first + many → state_at states.new i ≡ worn_state answer (state_at states.old i) }
-    ensures others { (i : ℕ) → (i < first) ⊎ (first + many ≤ i) → state_at states.new i ≡ state_at states.old i }
+pub fn wear(states: &mut [PageState], answer: Answer)
+    ensures { states.new ≡ map (worn_state answer) states.old }
 {
-    for k in 0..many {
-        let state = worn(get_state(states, first + k), answer);
-        put_state(states, first + k, state);
+    for state in states.iter_mut() {
+        *state = worn(*state, answer);
     }
 }
 
@@ -204,17 +205,5 @@ pub fn filled(answer: Answer) -> PageState
 pub fn still_on(answer: Answer) -> bool
     ensures { result ≡ still_on answer }
 {
-    match answer {
-        Answer::Fine | Answer::Failed => true,
-        Answer::Dark => false,
-    }
-}
-
-// The record of a block is another.
-pub fn put_cell(cells: &mut [BlockCell], block: usize, cell: BlockCell)
-    requires { block < length cells.old }
-    ensures here { cell_at cells.new block ≡ cell }
-    ensures others { (i : ℕ) → (i ≢ block) → cell_at cells.new i ≡ cell_at cells.old i }
-{
-    cells[block] = cell;
+    !matches!(answer, Answer::Dark)
 }

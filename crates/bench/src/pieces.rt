@@ -1,23 +1,9 @@
 // What may become of a page's bytes while it is read.
 ghost use Rattle.std.specs.Prelude.{◌≡◌, ℕ, ◌+◌, ◌*◌, ◌^◌, ◌<◌, ◌≤◌, T, length, ◌≢◌};
-ghost use Rattle.drive.specs.Bits.{all_bytes, apart, nearly, under};
+ghost use Rattle.drive.specs.Bits.{apart, nearly, under};
 ghost use Rattle.bench.specs.Pieces.{piece_at};
 
 use super::generator::Generator;
-
-// The number of bytes.
-fn size(bytes: &[u8]) -> usize
-    ensures { result ≡ length bytes.now }
-{
-    bytes.len()
-}
-
-// Each byte is below 256, as a proof has to know.
-pub fn fit(bytes: &[u8])
-    ensures { T (all_bytes bytes.now) }
-{
-    let _size = size(bytes);
-}
 
 // The byte whose only 1 is that bit.
 fn single(bit: u32) -> u8
@@ -58,27 +44,12 @@ pub fn turn_bits(page: &mut [u8], generator: &mut Generator) -> u64
     turned
 }
 
-// Bits that are 1 in the mask become 1 in each byte.
-pub fn raise(page: &mut [u8], mask: u8)
+// In each byte the bits of a mask become 1; each byte has a mask of its own.
+pub fn raise<F: FnMut() -> u8>(page: &mut [u8], mut mask: F)
+    requires { F.IsAlwaysCallable mask }
     ensures { T (under page.old page.new) }
 {
-    for i in 0..page.len() {
-        page[i] |= mask;
-    }
-}
-
-// Some bits of each byte become 1.
-pub fn raise_some(page: &mut [u8], generator: &mut Generator)
-    ensures { T (under page.old page.new) }
-{
-    for i in 0..page.len() {
-        page[i] |= generator.byte();
-    }
-}
-
-// Bytes that nothing is known of.
-pub fn fill_junk(bytes: &mut [u8], generator: &mut Generator) {
-    for byte in bytes.iter_mut() {
-        *byte = generator.byte();
+    for byte in page.iter_mut() {
+        *byte |= mask();
     }
 }

@@ -1,25 +1,22 @@
 // A chip that does what it is told to do: which of the outcomes of the data sheet comes is an argument.
-ghost use Rattle.std.specs.Prelude.{◌≡◌, ◌+◌, ◌<◌, ◌≤◌, T, length, ◌≢◌, nat_le};
+ghost use Rattle.std.specs.Prelude.{◌≡◌, ℕ, ◌+◌, ◌<◌, ◌≤◌, T, not, min, max, length, map, filter, count_by, ◌≢◌};
+ghost use Rattle.std.specs.List.{reduce};
 ghost use Rattle.drive.specs.Nand.{MayFail, MayErase, MayProgram, Erasing, Programming, blank_page, counted, dark, bads};
 ghost use Rattle.drive.specs.declared.Answer.TheVariants.{Failed};
-ghost use Rattle.bench.specs.Held.{limit, shaped};
+ghost use Rattle.bench.specs.Held.{limit, cell_at, bad_cell, shaped};
 ghost use Rattle.bench.specs.declared.memory.PageState.TheVariants.{Blank};
 ghost use Rattle.bench.specs.Store.{held, least, most};
 
 use super::memory::{
-    BlockCell, PageState, blank, filled, get_slot, get_state, has_space, put_cell, put_slot,
-    put_state, still_on, wear,
+    BlockCell, ChipMemory, Geometry, PageState, blank, filled, get_slot, put_slot, still_on, wear,
 };
 use drive::Answer;
 
-// Lent memory and a geometry; whether the power is on, and how often more it may be asked.
+// The memory and the geometry of a chip; whether the power is on, and how often more it may be asked.
 #[derive(Drop)]
 pub struct Store<'a> {
-    pub bytes: &'a mut [u8],
-    pub states: &'a mut [PageState],
-    pub cells: &'a mut [BlockCell],
-    pub blocks: u32,
-    pub pages: u32,
+    pub memory: ChipMemory<'a>,
+    pub geometry: Geometry,
     pub on: bool,
     pub left: u64,
 }
@@ -30,39 +27,29 @@ impl Store<'_> {
         ensures is { result ≡ (held self.now).blocks }
         ensures low { result ≤ 65536 }
     {
-        let fits = has_space(
-            self.bytes.len(),
-            self.states.len(),
-            self.cells.len(),
-            self.blocks,
-            self.pages,
-        );
-        if fits { self.blocks } else { 0 }
+        if self.memory.has_space(self.geometry) {
+            self.geometry.blocks
+        } else {
+            0
+        }
     }
 
-    // Whether a block is bad.
-    pub fn is_bad(&self, block: u32) -> bool
-        requires { block < (held self.now).blocks }
-        ensures { result ≡ ((held self.now).block block).bad }
+    // The records of the blocks.
+    fn cells(&self) -> &[BlockCell]
+        ensures long { length result.now ≡ (held self.now).blocks }
+        ensures low { length result.now ≤ 65536 }
+        ensures each { (k : ℕ) → k < length result.now → (bad_cell (cell_at result.now k) ≡ ((held self.now).block k).bad) × ((cell_at result.now k).erases ≡ ((held self.now).block k).erases) }
     {
-        let cell = self.cells[block as usize];
-        cell.bad || cell.erases == u32::MAX
+        &self.memory.cells[..self.blocks() as usize]
     }
 
-    // How often a block was erased.
-    pub fn erases(&self, block: u32) -> u32
+    // The record of a block.
+    pub fn cell(&self, block: u32) -> BlockCell
         requires { block < (held self.now).blocks }
-        ensures { result ≡ ((held self.now).block block).erases }
+        ensures bad { bad_cell result ≡ ((held self.now).block block).bad }
+        ensures erases { result.erases ≡ ((held self.now).block block).erases }
     {
-        self.cells[block as usize].erases
-    }
-
-    // Whether the next erasing of a block is its last, since the counter then ends.
-    pub fn is_last(&self, block: u32) -> bool
-        requires { block < (held self.now).blocks }
-        ensures { result ≡ nat_le limit (((held self.now).block block).erases + 1) }
-    {
-        self.erases(block) >= u32::MAX - 1
+        self.memory.cells[block as usize]
     }
 
     // An ask that changes nothing.
@@ -90,10 +77,11 @@ impl Store<'_> {
         requires early { (answer ≢ Failed) → ((held self.old).block block).erases + 1 < limit }
         ensures { Erasing (held self.old) block answer (held self.new) }
     {
-        let pages = self.pages as usize;
-        let cell = self.cells[block as usize].worn(answer);
-        wear(self.states, block as usize * pages, pages, answer);
-        put_cell(self.cells, block as usize, cell);
+        let pages = self.geometry.pages as usize;
+        let first = block as usize * pages;
+        let cell = self.memory.cells[block as usize].worn(answer);
+        wear(&mut self.memory.states[first..first + pages], answer);
+        self.memory.cells[block as usize] = cell;
         self.left -= 1;
         self.on = still_on(answer);
     }
@@ -105,11 +93,11 @@ impl Store<'_> {
         requires failure { answer ≡ Failed → MayFail (held self.old) block }
         ensures { Programming (held self.old) block page from.now answer (held self.new) }
     {
-        let place = block as usize * self.pages as usize + page as usize;
-        let cell = self.cells[block as usize].filled(page, answer);
-        put_slot(self.bytes, place, from);
-        put_state(self.states, place, filled(answer));
-        put_cell(self.cells, block as usize, cell);
+        let place = block as usize * self.geometry.pages as usize + page as usize;
+        let cell = self.memory.cells[block as usize].filled(page, answer);
+        put_slot(self.memory.bytes, place, from);
+        self.memory.states[place] = filled(answer);
+        self.memory.cells[block as usize] = cell;
         self.left -= 1;
         self.on = still_on(answer);
     }
@@ -121,11 +109,11 @@ impl Store<'_> {
         ensures is { ((held self.now).block block).page page ≡ shaped result into.new }
         ensures shows { result ≡ Blank → into.new ≡ blank_page }
     {
-        let place = block as usize * self.pages as usize + page as usize;
-        let state = get_state(self.states, place);
+        let place = block as usize * self.geometry.pages as usize + page as usize;
+        let state = self.memory.states[place];
         match state {
             PageState::Blank => blank(into),
-            PageState::Written | PageState::Torn => get_slot(self.bytes, place, into),
+            PageState::Written | PageState::Torn => get_slot(self.memory.bytes, place, into),
         }
         state
     }
@@ -135,13 +123,7 @@ impl Store<'_> {
         ensures count { result ≡ bads (held self.now).blocks (held self.now).block }
         ensures low { result ≤ 65536 }
     {
-        let mut count: u32 = 0;
-        for block in 0..self.blocks() {
-            if self.is_bad(block) {
-                count += 1;
-            }
-        }
-        count
+        count_bad(self.cells()) as u32
     }
 
     // Whether the data sheet lets a block go bad now.
@@ -149,35 +131,43 @@ impl Store<'_> {
         requires { block < (held self.now).blocks }
         ensures { ((T result → MayFail (held self.now) block)) × ((MayFail (held self.now) block → T result)) }
     {
-        if self.erases(block) >= 3000 {
-            return true;
-        }
-        16 * (self.bad_blocks() + 1) <= self.blocks()
+        self.cell(block).erases >= 3000 || 16 * (self.bad_blocks() + 1) <= self.blocks()
     }
 
     // The fewest erasings of a block that isn't bad; the counter's limit where all are.
     pub fn least_erased(&self) -> u32
         ensures { result ≡ least (held self.now).blocks (held self.now).block }
     {
-        let mut found = u32::MAX;
-        for block in 0..self.blocks() {
-            if !self.is_bad(block) {
-                found = found.min(self.erases(block));
-            }
-        }
-        found
+        least_of(self.cells()).unwrap_or(u32::MAX)
     }
 
     // The most erasings of a block that isn't bad; 0 where all are.
     pub fn most_erased(&self) -> u32
         ensures { result ≡ most (held self.now).blocks (held self.now).block }
     {
-        let mut found: u32 = 0;
-        for block in 0..self.blocks() {
-            if !self.is_bad(block) {
-                found = found.max(self.erases(block));
-            }
-        }
-        found
+        most_of(self.cells()).unwrap_or(0)
     }
+}
+
+// How many of these blocks are bad.
+fn count_bad(cells: &[BlockCell]) -> usize
+    ensures { result ≡ count_by bad_cell cells.now }
+{
+    cells.iter().filter(|cell| cell.is_bad()).count()
+}
+
+// The fewest erasings of a good one of these blocks.
+fn least_of(cells: &[BlockCell]) -> Option<u32>
+    ensures { result ≡ reduce min (map (λ c. c.erases) (filter (λ c. not (bad_cell c)) cells.now)) }
+{
+    let good = cells.iter().filter(|cell| !cell.is_bad());
+    good.map(|cell| cell.erases).min()
+}
+
+// The most erasings of a good one of these blocks.
+fn most_of(cells: &[BlockCell]) -> Option<u32>
+    ensures { result ≡ reduce max (map (λ c. c.erases) (filter (λ c. not (bad_cell c)) cells.now)) }
+{
+    let good = cells.iter().filter(|cell| !cell.is_bad());
+    good.map(|cell| cell.erases).max()
 }

@@ -1,18 +1,18 @@
 // Which of the outcomes that the data sheet allows comes.
-ghost use Rattle.std.specs.Prelude.{◌≡◌, ◌-◌, false, T, length, nat_eq};
-ghost use Rattle.drive.specs.Bits.{nearly, under};
-ghost use Rattle.bench.specs.Tricks.{Showing, seed_of};
+ghost use Rattle.std.specs.Prelude.{◌≡◌, ◌-◌, false, T, length, nat_eq, None};
+ghost use Rattle.drive.specs.Bits.{all_bytes, nearly, under};
+ghost use Rattle.bench.specs.Tricks.{Showing, ask_of, seed_of};
 ghost use Rattle.bench.specs.declared.tricks.Mode.TheVariants.{Plain};
 
-use super::events::Counts;
+use super::events::{Counts, View};
 use super::generator::{Generator, scramble};
 use super::memory::PageState;
-use super::pieces::{fill_junk, raise, raise_some, turn_bits};
+use super::pieces::{raise, turn_bits};
 
 // A plain chip turns no bit over and never fails, and shows every second bit of a torn page that should be 0 as 1.
 // A random one does now and then whatever the sheet allows. An adversarial one too, but it shows a torn page whole
 // or blank, as a bit for the block and the life says.
-#[derive(Clone, Copy)]
+#[derive(Clone, Copy, Debug, PartialEq, Eq)]
 pub enum Mode {
     Plain,
     Random { seed: u64 },
@@ -26,46 +26,45 @@ impl Mode {
     {
         match self {
             Mode::Plain => 0,
-            Mode::Random { seed } => seed,
-            Mode::Adversarial { seed } => seed,
+            Mode::Random { seed } | Mode::Adversarial { seed } => seed,
         }
     }
 }
 
-// What a chip chooses by. `cut_in`: the power goes in the midst of the ask with this number, from 1 on; 0 for none.
-// `odds`: of so many programmings and erasings one is to fail, if the mode lets any fail; 0 for none.
+// What a chip chooses by. `asks_before_cut`: so many asks are left before the one in whose midst the power goes.
+// `odds`: of so many programmings and erasings one is to fail, if the mode lets any fail.
 #[derive(Drop)]
 pub struct Tricks {
     pub mode: Mode,
     pub generator: Generator,
     pub life: u64,
-    pub cut_in: u64,
-    pub odds: u64,
+    pub asks_before_cut: Option<u64>,
+    pub odds: Option<u64>,
     pub counts: Counts,
 }
 
 impl Tricks {
     // At the start of the first life.
     pub fn new(mode: Mode) -> Tricks
-        ensures { (result.mode ≡ mode) × ((result.life ≡ 0) × (result.cut_in ≡ 0)) }
+        ensures { (result.mode ≡ mode) × ((result.life ≡ 0) × (result.asks_before_cut ≡ None)) }
     {
         Tricks {
             mode,
             generator: Generator { state: mode.seed() },
             life: 0,
-            cut_in: 0,
-            odds: 512,
-            counts: Counts::new(),
+            asks_before_cut: None,
+            odds: Some(512),
+            counts: Counts::default(),
         }
     }
 
     // Whether the power goes in the midst of this ask.
     pub fn goes(&mut self) -> bool
-        ensures which { result ≡ nat_eq self.old.cut_in 1 }
-        ensures left { self.new.cut_in ≡ self.old.cut_in - 1 }
+        ensures which { result ≡ nat_eq (ask_of self.old.asks_before_cut) 1 }
+        ensures left { ask_of self.new.asks_before_cut ≡ ask_of self.old.asks_before_cut - 1 }
     {
-        let goes = self.cut_in == 1;
-        self.cut_in = self.cut_in.saturating_sub(1);
+        let goes = self.asks_before_cut == Some(0);
+        self.asks_before_cut = self.asks_before_cut.and_then(|asks| asks.checked_sub(1));
         goes
     }
 
@@ -73,17 +72,18 @@ impl Tricks {
     pub fn wants_failure(&mut self) -> bool
         ensures { self.old.mode ≡ Plain → result ≡ false }
     {
-        match self.mode {
-            Mode::Plain => false,
-            Mode::Random { .. } | Mode::Adversarial { .. } => {
-                self.odds != 0 && self.generator.next() % self.odds == 0
+        match (self.mode, self.odds) {
+            (Mode::Plain, _) | (_, None) => false,
+            (Mode::Random { .. } | Mode::Adversarial { .. }, Some(odds)) => {
+                self.generator.next().is_multiple_of(odds)
             }
         }
     }
 
     // What a reading shows of a page that holds these bytes, before bits turn over.
     pub fn show(&mut self, state: PageState, block: u32, page: &mut [u8])
-        ensures { Showing state page.old page.new }
+        ensures shown { Showing state page.old page.new }
+        ensures bytes { T (all_bytes page.new) }
     {
         match state {
             PageState::Blank | PageState::Written => {}
@@ -95,35 +95,42 @@ impl Tricks {
     fn tear(&mut self, block: u32, page: &mut [u8])
         ensures { T (under page.old page.new) }
     {
+        let view = self.view(block);
+        self.counts.shown.note(view);
+        match view {
+            View::Whole => raise(page, || 0),
+            View::Part => self.tear_in_part(page),
+            View::Blank => raise(page, || 255),
+        }
+    }
+
+    // How a torn page of a block is shown.
+    fn view(&mut self, block: u32) -> View {
         match self.mode {
-            Mode::Plain => self.tear_by(0x55, page),
-            Mode::Random { .. } => self.tear_anew(page),
+            Mode::Plain => View::Part,
+            Mode::Random { .. } => match self.generator.next() % 4 {
+                0 => View::Whole,
+                1 => View::Blank,
+                _ => View::Part,
+            },
             Mode::Adversarial { seed } => {
-                let whole = is_whole(seed, block, self.life);
-                self.tear_by(if whole { 0 } else { 255 }, page);
+                if is_whole(seed, block, self.life) {
+                    View::Whole
+                } else {
+                    View::Blank
+                }
             }
         }
     }
 
-    // A torn page with the bits of a mask raised.
-    fn tear_by(&mut self, mask: u8, page: &mut [u8])
+    // A torn page with some of its noughts: every second one, or each time others.
+    fn tear_in_part(&mut self, page: &mut [u8])
         ensures { T (under page.old page.new) }
     {
-        self.counts.add_shown(mask);
-        raise(page, mask);
-    }
-
-    // A torn page with all, some or none of its noughts, each time others.
-    fn tear_anew(&mut self, page: &mut [u8])
-        ensures { T (under page.old page.new) }
-    {
-        match self.generator.next() % 4 {
-            0 => self.tear_by(0, page),
-            1 => self.tear_by(255, page),
-            _ => {
-                self.counts.add_shown(1);
-                raise_some(page, &mut self.generator);
-            }
+        if self.mode == Mode::Plain {
+            raise(page, || 0x55);
+        } else {
+            raise(page, || self.generator.byte());
         }
     }
 
@@ -132,6 +139,7 @@ impl Tricks {
         requires { length page.old ≡ 4352 }
         ensures near { T (nearly 17 1 page.old page.new) }
         ensures plain { self.old.mode ≡ Plain → page.new ≡ page.old }
+        ensures bytes { T (all_bytes page.new) }
     {
         match self.mode {
             Mode::Plain => {}
@@ -144,15 +152,15 @@ impl Tricks {
 
     // Bytes that nothing is known of.
     pub fn junk(&mut self, bytes: &mut [u8]) {
-        fill_junk(bytes, &mut self.generator);
+        bytes.fill_with(|| self.generator.byte());
     }
 
     // Another life begins.
     pub fn revive(&mut self)
-        ensures { self.new.cut_in ≡ 0 }
+        ensures { self.new.asks_before_cut ≡ None }
     {
         self.life = self.life.wrapping_add(1);
-        self.cut_in = 0;
+        self.asks_before_cut = None;
     }
 }
 

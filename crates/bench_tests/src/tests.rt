@@ -39,11 +39,11 @@ fn counts_of(rt: HostRuntime, mode: Mode) -> Result<Counts, Fail> {
 #[test]
 fn plain(rt: HostRuntime) -> Result<(), Fail> {
     let counts = counts_of(rt, Mode::Plain)?;
-    assert!(rt; counts.reads > 3500 && counts.programs > 3500 && counts.erasings > 3500);
-    assert!(rt; counts.cut_reads > 0 && counts.cut_programs > 0 && counts.cut_erasings > 0);
-    assert!(rt; counts.shown_part > 0);
-    assert!(rt; counts.shown_whole == 0 && counts.shown_blank == 0 && counts.turned_bits == 0);
-    assert!(rt; counts.failed_programs == 0 && counts.failed_erasings == 0);
+    assert!(rt; counts.reads.made > 3500 && counts.programs.made > 3500 && counts.erasings.made > 3500);
+    assert!(rt; counts.reads.cut > 0 && counts.programs.cut > 0 && counts.erasings.cut > 0);
+    assert!(rt; counts.shown.part > 0);
+    assert!(rt; counts.shown.whole == 0 && counts.shown.blank == 0 && counts.turned_bits == 0);
+    assert!(rt; counts.programs.failed == 0 && counts.erasings.failed == 0);
     Ok(())
 }
 
@@ -51,10 +51,10 @@ fn plain(rt: HostRuntime) -> Result<(), Fail> {
 #[test]
 fn random(rt: HostRuntime) -> Result<(), Fail> {
     let counts = counts_of(rt, Mode::Random { seed: 3 })?;
-    assert!(rt; counts.cut_reads > 0 && counts.cut_programs > 0 && counts.cut_erasings > 0);
+    assert!(rt; counts.reads.cut > 0 && counts.programs.cut > 0 && counts.erasings.cut > 0);
     assert!(rt; counts.turned_bits > 0);
-    assert!(rt; counts.failed_programs > 0 && counts.failed_erasings > 0);
-    assert!(rt; counts.shown_whole > 0 && counts.shown_part > 0 && counts.shown_blank > 0);
+    assert!(rt; counts.programs.failed > 0 && counts.erasings.failed > 0);
+    assert!(rt; counts.shown.whole > 0 && counts.shown.part > 0 && counts.shown.blank > 0);
     Ok(())
 }
 
@@ -63,8 +63,8 @@ fn random(rt: HostRuntime) -> Result<(), Fail> {
 fn adversarial(rt: HostRuntime) -> Result<(), Fail> {
     let counts = counts_of(rt, Mode::Adversarial { seed: 3 })?;
     assert!(rt; counts.turned_bits > 0);
-    assert!(rt; counts.failed_programs > 0 && counts.failed_erasings > 0);
-    assert!(rt; counts.shown_whole > 0 && counts.shown_blank > 0);
-    assert_eq!(rt; counts.shown_part, 0);
+    assert!(rt; counts.programs.failed > 0 && counts.erasings.failed > 0);
+    assert!(rt; counts.shown.whole > 0 && counts.shown.blank > 0);
+    assert_eq!(rt; counts.shown.part, 0);
     Ok(())
 }

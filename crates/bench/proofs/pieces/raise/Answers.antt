@@ -1,9 +1,13 @@
-use Rattle.std.proofs.Common.{arith}
+use Rattle.std.proofs.Common.{refl, rules, of_calls, arith}
 use Rattle.bench.proofs.Turning.{raise_more, under_each}
 use Rattle.bench.proofs.pieces.raise.Goals as goal
 
-pub loop-i-preserved : goal.loop-i-preserved
-loop-i-preserved c = raise_more c.loop-i.i c.args.mask c.args.page.now c.loop-i.page (omega arith) c.loop-i.invariant
+pub loop-byte-init : goal.loop-byte-init
+loop-byte-init g c = record { callable = c.requires; raised = (λ k h. absurd (omega arith), λ k h. refl) }
+
+pub loop-byte-preserved : goal.loop-byte-preserved
+loop-byte-preserved g c =
+    record { callable = search (rules, of_calls); raised = raise_more c.loop-byte.byte-index c.mask.result c.args.page.now c.loop-byte.page (omega arith) c.loop-byte.invariant.raised }
 
 pub returns : goal.returns
-returns c = under_each c.args.page.now c.loop-i.page (omega arith) (λ k h. c.loop-i.invariant.0 k (omega arith))
+returns g c = under_each c.args.page.now c.loop-byte.page (omega arith) (λ k h. c.loop-byte.invariant.raised.0 k (omega arith))

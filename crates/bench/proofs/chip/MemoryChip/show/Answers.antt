@@ -8,6 +8,6 @@ returns c =
     let page = ((held c.args.self.now.store).block c.args.block).page c.args.page in
     record {
       same = refl;
-      shows = shows page c.fetch-state.result c.fetch-state.new.into c.show.new.page c.turn.new.page c.fetch-state.ensures.is c.fetch-state.ensures.shows c.show.ensures
-          c.fit.ensures (omega arith) c.fit-2.ensures c.turn.ensures.near;
+      shows = shows page c.fetch-state.result c.fetch-state.new.into c.show.new.page c.turn.new.page c.fetch-state.ensures.is c.fetch-state.ensures.shows c.show.ensures.shown
+          c.show.ensures.bytes (omega arith) c.turn.ensures.bytes c.turn.ensures.near;
     }

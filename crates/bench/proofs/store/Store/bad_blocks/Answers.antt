@@ -1,16 +1,9 @@
-use Rattle.std.proofs.Common.{true, false, sym, ◌∙◌, arith}
+use Rattle.std.proofs.Common.{ℕ, ap, ◌∙◌}
 use Rattle.bench.specs.Store.{held}
-use Rattle.bench.proofs.Tallies.{bads_none, bads_more}
+use Rattle.drive.specs.Nand.{bads}
+use Rattle.bench.proofs.Tallies.{bads_of}
 use Rattle.bench.proofs.store.Store.bad_blocks.Goals as goal
-use Rattle.bench.proofs.store.Store.bad_blocks.Goals.{then-is_bad, else-is_bad}
 
-pub loop-block-init : goal.loop-block-init
-loop-block-init c = (bads_none (held c.args.self.now).block, omega arith)
-
-pub loop-block-preserved : goal.loop-block-preserved
-loop-block-preserved c =
-    let f = (held c.args.self.now).block in
-    elim c.if-is_bad.branch [
-      | then-is_bad w ↦ (w.count-is ∙ bads_more c.loop-block.block c.loop-block.count f true (sym w.if-is_bad.true ∙ c.is_bad.ensures) c.loop-block.invariant.0, omega (arith, w.count-is))
-      | else-is_bad w ↦ (w.count-is ∙ bads_more c.loop-block.block c.loop-block.count f false (sym w.if-is_bad.false ∙ c.is_bad.ensures) c.loop-block.invariant.0, omega (arith, w.count-is))
-    ]
+pub returns-clause-count : goal.returns-clause-count
+returns-clause-count c =
+    c.count_bad.ensures ∙ bads_of c.cells.result.now (held c.args.self.now).block c.cells.ensures.each ∙ ap (λ (m : ℕ). bads m (held c.args.self.now).block) c.cells.ensures.long

@@ -1,5 +1,5 @@
 use Rattle.bench.proofs.Space.{inside}
-use Rattle.bench.proofs.store.Store.erases.Goals as goal
+use Rattle.bench.proofs.store.Store.cell.Goals as goal
 
 pub bounds-self-block : goal.bounds-self-block
 bounds-self-block c = (inside _ _ _ _ _ _ c.requires).cell
