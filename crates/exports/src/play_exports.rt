@@ -151,9 +151,9 @@ impl Report {
     {
         chip.allow(0);
         let counts = chip.counts();
-        self.reads = counts.reads;
-        self.programs = counts.programs;
-        self.erasings = counts.erasings;
+        self.reads = counts.reads.made;
+        self.programs = counts.programs.made;
+        self.erasings = counts.erasings.made;
         self.most_rise = counts.most_rise;
         self.most_turn = counts.most_turn;
     }

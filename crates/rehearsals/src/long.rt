@@ -335,7 +335,7 @@ fn print_tally(rt: &HostRuntime, tally: Tally) -> io::Result<()> {
 // Prints whether blocks failed, and how far apart the erasings of the others are.
 fn print_wear(rt: &HostRuntime, chip: &MemoryChip) -> io::Result<()> {
     let counts = chip.counts();
-    if counts.failed_programs > 0 || counts.failed_erasings > 0 {
+    if counts.programs.failed > 0 || counts.erasings.failed > 0 {
         println!(rt; "blocks failed")?;
     }
     let apart = chip.most_erased().saturating_sub(chip.least_erased());
