@@ -3,7 +3,7 @@ use Rattle.std.proofs.Common.{◌≡◌, ℕ, ◌<◌, Bool, true, false, not, T
 use Rattle.std.proofs.lemmas.Bool.{eq-eqb}
 use Rattle.drive.specs.Nand.{Nand, MayErase, MayProgram, Erasing, Programming, Reading, allowed, lit}
 use Rattle.drive.specs.declared.Answer.{Answer}
-use Rattle.drive.specs.declared.Answer.TheVariants.{Fine, Dark}
+use Rattle.drive.specs.declared.Answer.TheVariants.{Fine, Failed, Dark}
 use Rattle.bench_tests.specs.Asked.{Kept}
 
 pub erase_kept : {n : Nand} {k : ℕ} {a : Answer} {m : Nand} → Erasing n k a m → Kept n m
@@ -12,9 +12,17 @@ erase_kept (Erasing.fails on may) = record { blocks_kept = refl; pages_kept = re
 erase_kept (Erasing.goes on) = record { blocks_kept = refl; pages_kept = refl }
 erase_kept (Erasing.gone off) = record { blocks_kept = refl; pages_kept = refl }
 
-pub erase_dark : {n : Nand} {k : ℕ} {m : Nand} → Erasing n k Dark m → m.on ≡ false
-erase_dark (Erasing.goes on) = refl
-erase_dark (Erasing.gone off) = refl
+fine_not_dark : Fine ≡ Dark → ⊥
+fine_not_dark e = cc
+
+failed_not_dark : Failed ≡ Dark → ⊥
+failed_not_dark e = cc
+
+pub erase_dark : {n : Nand} {k : ℕ} {a : Answer} {m : Nand} → Erasing n k a m → a ≡ Dark → m.on ≡ false
+erase_dark (Erasing.done on) e = absurd (fine_not_dark e)
+erase_dark (Erasing.fails on may) e = absurd (failed_not_dark e)
+erase_dark (Erasing.goes on) e = refl
+erase_dark (Erasing.gone off) e = refl
 
 pub program_kept : {n : Nand} {k p : ℕ} {b : List ℕ} {a : Answer} {m : Nand} → Programming n k p b a m → Kept n m
 program_kept (Programming.done on) = record { blocks_kept = refl; pages_kept = refl }
@@ -22,16 +30,19 @@ program_kept (Programming.fails on may) = record { blocks_kept = refl; pages_kep
 program_kept (Programming.goes on) = record { blocks_kept = refl; pages_kept = refl }
 program_kept (Programming.gone off) = record { blocks_kept = refl; pages_kept = refl }
 
-pub program_dark : {n : Nand} {k p : ℕ} {b : List ℕ} {m : Nand} → Programming n k p b Dark m → m.on ≡ false
-program_dark (Programming.goes on) = refl
-program_dark (Programming.gone off) = refl
+pub program_dark : {n : Nand} {k p : ℕ} {b : List ℕ} {a : Answer} {m : Nand} → Programming n k p b a m → a ≡ Dark → m.on ≡ false
+program_dark (Programming.done on) e = absurd (fine_not_dark e)
+program_dark (Programming.fails on may) e = absurd (failed_not_dark e)
+program_dark (Programming.goes on) e = refl
+program_dark (Programming.gone off) e = refl
 
 pub read_kept : {n : Nand} {k p : ℕ} {r : List ℕ} {a : Answer} {m : Nand} → Reading n k p r a m → Kept n m
 read_kept (Reading.reads r on s) = record { blocks_kept = refl; pages_kept = refl }
 read_kept (Reading.goes r) = record { blocks_kept = refl; pages_kept = refl }
 
-pub read_dark : {n : Nand} {k p : ℕ} {r : List ℕ} {m : Nand} → Reading n k p r Dark m → m.on ≡ false
-read_dark (Reading.goes r) = refl
+pub read_dark : {n : Nand} {k p : ℕ} {r : List ℕ} {a : Answer} {m : Nand} → Reading n k p r a m → a ≡ Dark → m.on ≡ false
+read_dark (Reading.reads r on s) e = absurd (fine_not_dark e)
+read_dark (Reading.goes r) e = refl
 
 eqb_same : (k : ℕ) → eqb k k ≡ true
 eqb_same k = eq-eqb k k refl

@@ -1,8 +1,9 @@
 // Chips in memory are asked ten thousand times, and each of their tricks happens.
 #![tactic(auto)]
 
-ghost use Rattle.std.specs.Prelude.{◌≡◌, ℕ, ◌<◌, length};
+ghost use Rattle.std.specs.Prelude.{◌≡◌, ℕ, ◌<◌, false, length};
 ghost use Rattle.drive.specs.Nand.{MayProgram};
+ghost use Rattle.drive.specs.declared.Answer.TheVariants.{Dark};
 ghost use Rattle.bench_tests.specs.Asked.{Kept};
 
 use drive::{Answer, Bench};
@@ -10,15 +11,23 @@ use drive::{Answer, Bench};
 #[cfg(test)]
 mod tests;
 
+// The power comes back if it went with this answer.
+fn revive<C: Bench>(chip: &mut C, answer: Answer, room: &mut [u8])
+    requires { answer ≡ Dark → (C.Chip.nand chip.old).on ≡ false }
+    ensures { Kept (C.Chip.nand chip.old) (C.Chip.nand chip.new) }
+{
+    if matches!(answer, Answer::Dark) {
+        chip.power(room);
+    }
+}
+
 // The first page of a block that may be programmed is written; the power comes back if it goes.
 fn write<C: Bench>(chip: &mut C, block: u32, bytes: &[u8], room: &mut [u8])
     requires { MayProgram (C.Chip.nand chip.old) block 0 bytes.now }
     ensures { Kept (C.Chip.nand chip.old) (C.Chip.nand chip.new) }
 {
-    match chip.program(block, 0, bytes) {
-        Answer::Fine | Answer::Failed => {}
-        Answer::Dark => chip.power(room),
-    }
+    let answer = chip.program(block, 0, bytes);
+    revive(chip, answer, room);
 }
 
 // A block that isn't bad is erased, and its first page written; the power comes back if it goes.
@@ -33,8 +42,7 @@ pub fn rewrite<C: Bench>(chip: &mut C, block: u32, bytes: &[u8], room: &mut [u8]
     chip.allow(2);
     match chip.erase(block) {
         Answer::Fine => write(chip, block, bytes, room),
-        Answer::Failed => {}
-        Answer::Dark => chip.power(room),
+        answer => revive(chip, answer, room),
     }
 }
 
@@ -45,10 +53,8 @@ pub fn look<C: Bench>(chip: &mut C, block: u32, into: &mut [u8], room: &mut [u8]
     ensures { Kept (C.Chip.nand chip.old) (C.Chip.nand chip.new) }
 {
     chip.allow(1);
-    match chip.read(block, 0, into) {
-        Answer::Fine | Answer::Failed => {}
-        Answer::Dark => chip.power(room),
-    }
+    let answer = chip.read(block, 0, into);
+    revive(chip, answer, room);
 }
 
 // Every block is rewritten and looked at.

@@ -39,7 +39,9 @@ fn counts_of(rt: HostRuntime, mode: Mode) -> Result<Counts, Fail> {
 #[test]
 fn plain(rt: HostRuntime) -> Result<(), Fail> {
     let counts = counts_of(rt, Mode::Plain)?;
-    assert!(rt; counts.reads.made > 3500 && counts.programs.made > 3500 && counts.erasings.made > 3500);
+    assert!(rt;
+        counts.reads.made > 3500 && counts.programs.made > 3500 && counts.erasings.made > 3500
+    );
     assert!(rt; counts.reads.cut > 0 && counts.programs.cut > 0 && counts.erasings.cut > 0);
     assert!(rt; counts.shown.part > 0);
     assert!(rt; counts.shown.whole == 0 && counts.shown.blank == 0 && counts.turned_bits == 0);

@@ -1,4 +1,4 @@
-use Rattle.bench_tests.proofs.Sheet.{erase_kept, erase_dark, rewritable, lit_kept, allowed_kept, kept_trans}
+use Rattle.bench_tests.proofs.Sheet.{erase_kept, erase_dark, rewritable, allowed_kept, kept_trans}
 use Rattle.std.proofs.Common.{sym, ◌∙◌}
 use Rattle.bench_tests.proofs.rewrite.Goals as goal
 
@@ -6,14 +6,11 @@ pub write-requires : goal.write-requires
 write-requires g c =
     rewritable (g.C.Chip.nand c.args.chip.now) c.args.bytes.now c.allow.ensures c.requires.within.0 (sym c.is_bad.ensures ∙ c.if-is_bad.false) c.requires.within.1 c.requires.whole c.in-Fine.ensures
 
-pub power-requires : goal.power-requires
-power-requires g c = erase_dark c.in-Dark.ensures
+pub revive-requires : goal.revive-requires
+revive-requires g c = erase_dark c.erase.ensures
 
 pub returns-in-Fine : goal.returns-in-Fine
 returns-in-Fine g c = kept_trans (allowed_kept 2 c.allow.ensures) (kept_trans (erase_kept c.erase.ensures) c.write.ensures)
 
-pub returns-in-Failed : goal.returns-in-Failed
-returns-in-Failed g c = kept_trans (allowed_kept 2 c.allow.ensures) (erase_kept c.erase.ensures)
-
-pub returns-in-Dark : goal.returns-in-Dark
-returns-in-Dark g c = kept_trans (allowed_kept 2 c.allow.ensures) (kept_trans (erase_kept c.erase.ensures) (lit_kept c.power.ensures))
+pub returns-in_default : goal.returns-in_default
+returns-in_default g c = kept_trans (allowed_kept 2 c.allow.ensures) (kept_trans (erase_kept c.erase.ensures) c.revive.ensures)
