@@ -1,13 +1,14 @@
 // A chip in lent memory: its tricks choose what comes, and its store does it.
-ghost use Rattle.std.specs.Prelude.{◌≡◌, ◌+◌, ◌<◌, length, ◌≢◌};
-ghost use Rattle.drive.specs.Nand.{MayFail, Shows, counted, dark};
+ghost use Rattle.std.specs.Prelude.{◌≡◌, ◌+◌, ◌<◌, ◌≢◌};
+ghost use Rattle.drive.specs.Nand.{counted, dark};
 ghost use Rattle.drive.specs.declared.Answer.TheVariants.{Failed};
 ghost use Rattle.bench.specs.Held.{limit};
-ghost use Rattle.bench.specs.Store.{held, least, most};
+ghost use Rattle.bench.specs.Store.{MayGoBad, held, least, most};
 ghost use Rattle.bench.specs.Tricks.{ask_of, odds_of};
 
 use super::events::Counts;
 use super::generator::Generator;
+use super::memory::BlockCell;
 use super::store::Store;
 use super::tricks::{Mode, Tricks};
 use drive::{Answer, Bench, Chip};
@@ -80,44 +81,30 @@ impl MemoryChip<'_> {
         self.store.go_dark();
     }
 
-    // What a reading shows of a page.
-    fn show(&mut self, block: u32, page: u32, into: &mut [u8])
-        requires within { (block < (held self.old.store).blocks) × (page < (held self.old.store).pages) }
-        requires lent { length into.old ≡ 4352 }
+    // What comes of a programming of a block with that record.
+    fn outcome(&mut self, cell: BlockCell) -> Answer
         ensures same { self.new.store ≡ self.old.store }
-        ensures shows { Shows (((held self.old.store).block block).page page) into.new }
-    {
-        let state = self.store.fetch(block, page, into);
-        self.tricks.show(state, block, into);
-        self.tricks.turn(into);
-    }
-
-    // What comes of a programming.
-    fn outcome(&mut self, block: u32) -> Answer
-        requires { block < (held self.old.store).blocks }
-        ensures same { self.new.store ≡ self.old.store }
-        ensures failure { result ≡ Failed → MayFail (held self.old.store) block }
+        ensures failure { result ≡ Failed → MayGoBad (held self.old.store) cell.erases }
     {
         if self.tricks.goes() {
             Answer::Dark
-        } else if self.tricks.wants_failure() && self.store.may_fail(block) {
+        } else if self.tricks.wants_failure() && self.store.may_fail(cell) {
             Answer::Failed
         } else {
             Answer::Fine
         }
     }
 
-    // What comes of an erasing: a failure where the counter would end.
-    fn erase_outcome(&mut self, block: u32) -> Answer
-        requires { block < (held self.old.store).blocks }
+    // What comes of an erasing of a block with that record: a failure where its counter would end.
+    fn erase_outcome(&mut self, cell: BlockCell) -> Answer
         ensures same { self.new.store ≡ self.old.store }
-        ensures failure { result ≡ Failed → MayFail (held self.old.store) block }
-        ensures early { (result ≢ Failed) → ((held self.old.store).block block).erases + 1 < limit }
+        ensures failure { result ≡ Failed → MayGoBad (held self.old.store) cell.erases }
+        ensures early { (result ≢ Failed) → cell.erases + 1 < limit }
     {
-        if self.store.cell(block).is_last() {
+        if cell.is_last() {
             Answer::Failed
         } else {
-            self.outcome(block)
+            self.outcome(cell)
         }
     }
 }
@@ -152,7 +139,9 @@ impl Chip for MemoryChip<'_> {
             return Answer::Dark;
         }
         self.tricks.counts.reads.note(Answer::Fine);
-        self.show(block, page, into);
+        let state = self.store.fetch(block, page, into);
+        self.tricks.show(state, block, into);
+        self.tricks.turn(into);
         self.store.count();
         Answer::Fine
     }
@@ -163,7 +152,8 @@ impl Chip for MemoryChip<'_> {
             self.store.go_dark();
             return Answer::Dark;
         }
-        let answer = self.outcome(block);
+        let cell = self.store.cell(block);
+        let answer = self.outcome(cell);
         self.tricks.counts.programs.note(answer);
         self.store.program(block, page, from, answer);
         answer
@@ -175,7 +165,8 @@ impl Chip for MemoryChip<'_> {
             self.store.go_dark();
             return Answer::Dark;
         }
-        let answer = self.erase_outcome(block);
+        let cell = self.store.cell(block);
+        let answer = self.erase_outcome(cell);
         self.tricks.counts.erasings.note(answer);
         self.store.erase(block, answer);
         answer

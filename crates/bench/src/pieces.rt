@@ -29,6 +29,7 @@ pub fn turn_bits(page: &mut [u8], generator: &mut Generator) -> u64
     ensures low { result ≤ 17 }
 {
     let mut turned: u64 = 0;
+    // With `chunks_mut` a proof knows nothing but the length of the page after the loop: `near` was left.
     for piece in 0..17usize {
         let draw = generator.next();
         if draw % 2 == 1 {

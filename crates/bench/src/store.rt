@@ -5,7 +5,7 @@ ghost use Rattle.drive.specs.Nand.{MayFail, MayErase, MayProgram, Erasing, Progr
 ghost use Rattle.drive.specs.declared.Answer.TheVariants.{Failed};
 ghost use Rattle.bench.specs.Held.{limit, cell_at, bad_cell, shaped};
 ghost use Rattle.bench.specs.declared.memory.PageState.TheVariants.{Blank};
-ghost use Rattle.bench.specs.Store.{held, least, most};
+ghost use Rattle.bench.specs.Store.{MayGoBad, held, least, most};
 
 use super::memory::{
     BlockCell, ChipMemory, Geometry, PageState, blank, filled, get_slot, put_slot, still_on, wear,
@@ -13,6 +13,7 @@ use super::memory::{
 use drive::Answer;
 
 // The memory and the geometry of a chip; whether the power is on, and how often more it may be asked.
+// That the memory has space is no ghost field: parts of the slices in `memory` are lent, which is not covered beside one.
 #[derive(Drop)]
 pub struct Store<'a> {
     pub memory: ChipMemory<'a>,
@@ -70,6 +71,7 @@ impl Store<'_> {
     }
 
     // An erasing that is answered so.
+    #[tactic(auto, using(crate::proofs::Space::inside))]
     pub fn erase(&mut self, block: u32, answer: Answer)
         requires asked { MayErase (held self.old) block }
         requires on { T (held self.old).on }
@@ -126,12 +128,11 @@ impl Store<'_> {
         count_bad(self.cells()) as u32
     }
 
-    // Whether the data sheet lets a block go bad now.
-    pub fn may_fail(&self, block: u32) -> bool
-        requires { block < (held self.now).blocks }
-        ensures { ((T result → MayFail (held self.now) block)) × ((MayFail (held self.now) block → T result)) }
+    // Whether the data sheet lets a block with that record go bad now.
+    pub fn may_fail(&self, cell: BlockCell) -> bool
+        ensures { (T result → MayGoBad (held self.now) cell.erases) × (MayGoBad (held self.now) cell.erases → T result) }
     {
-        self.cell(block).erases >= 3000 || 16 * (self.bad_blocks() + 1) <= self.blocks()
+        cell.erases >= 3000 || 16 * (self.bad_blocks() + 1) <= self.blocks()
     }
 
     // The fewest erasings of a block that isn't bad; the counter's limit where all are.

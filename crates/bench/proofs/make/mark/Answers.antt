@@ -1,8 +1,8 @@
-use Rattle.std.proofs.Common.{ℕ, List, length, true, set, get_or, refl, ap, ◌∙◌, arith}
-use Rattle.std.proofs.lemmas.List.{take_all, get_or-replicate, get_or-set_same, get_or-set_other}
+use Rattle.std.proofs.Common.{List, length, true, set, get_or, refl, ap, ◌∙◌, arith}
+use Rattle.std.proofs.lemmas.List.{get_or-replicate, get_or-set_same, get_or-set_other}
 use Rattle.bench.specs.declared.memory.BlockCell.{BlockCell}
 use Rattle.bench.specs.Held.{untouched, cell_at}
-use Rattle.bench.specs.Made.{listed, marked}
+use Rattle.bench.specs.Made.{marked}
 use Rattle.bench.proofs.Fresh.{listed_none, mark_more}
 use Rattle.bench.proofs.make.mark.Goals as goal
 
@@ -20,6 +20,3 @@ loop-block-preserved c =
     let cell = record (cell_at old b) { bad = true } in
     mark_more bad c.loop-block.block-index b (length c.fill.new.self) old (set old b cell) c.loop-block-test.true refl
     c.loop-block.invariant (get_or-set_same old b cell untouched c.if-block-cells.false ∙ ap (λ (x : BlockCell). record x { bad = true }) (c.loop-block.invariant b (omega arith))) (λ j ne. get_or-set_other old b j cell untouched ne)
-
-pub returns : goal.returns
-returns c = λ k h. c.loop-block.invariant k (omega arith) ∙ ap (λ (xs : List ℕ). marked (listed xs k)) (take_all c.loop-block.block-index c.args.bad.now (omega arith))

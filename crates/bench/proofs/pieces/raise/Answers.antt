@@ -1,9 +1,6 @@
-use Rattle.std.proofs.Common.{refl, rules, of_calls, arith}
+use Rattle.std.proofs.Common.{rules, of_calls, arith}
 use Rattle.bench.proofs.Turning.{raise_more, under_each}
 use Rattle.bench.proofs.pieces.raise.Goals as goal
-
-pub loop-byte-init : goal.loop-byte-init
-loop-byte-init g c = record { callable = c.requires; raised = (λ k h. absurd (omega arith), λ k h. refl) }
 
 pub loop-byte-preserved : goal.loop-byte-preserved
 loop-byte-preserved g c =

@@ -18,5 +18,5 @@ loop-piece-preserved c =
           (more.0, more.1, omega (arith, w.turned-is))
     ]
 
-pub returns : goal.returns
-returns c = record { near = nearly_each 17 c.args.page.now c.loop-piece.page (λ j h. c.loop-piece.invariant.0 j (omega arith)); low = omega arith }
+pub returns-clause-near : goal.returns-clause-near
+returns-clause-near c = nearly_each 17 c.args.page.now c.loop-piece.page (λ j h. c.loop-piece.invariant.0 j (omega arith))

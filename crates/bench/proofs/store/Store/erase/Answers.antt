@@ -9,19 +9,10 @@ use Rattle.bench.proofs.Rows.{row_long, row_here, row_other}
 use Rattle.bench.proofs.Sheet.{erase_by, unspent}
 use Rattle.bench.proofs.store.Store.erase.Goals as goal
 
-pub bounds-self-block : goal.bounds-self-block
-bounds-self-block c = (inside _ _ _ _ _ _ c.requires.asked.1).cell
-
-pub bounds-self-block-2 : goal.bounds-self-block-2
-bounds-self-block-2 c = (inside _ _ _ _ _ _ c.requires.asked.1).cell
-
 pub worn-cell-requires : goal.worn-cell-requires
 worn-cell-requires c =
     let s = c.args.self.now in
     unspent s.memory.bytes.now s.memory.states.now s.memory.cells.now s.geometry.blocks s.geometry.pages c.args.block s.left s.on c.requires.asked
-
-pub slice_bounds-wear-end : goal.slice_bounds-wear-end
-slice_bounds-wear-end c = (inside _ _ _ _ _ _ c.requires.asked.1).state
 
 pub returns : goal.returns
 returns c =

@@ -8,12 +8,6 @@ use Rattle.bench.proofs.Space.{inside}
 use Rattle.bench.proofs.Sheet.{program_by}
 use Rattle.bench.proofs.store.Store.program.Goals as goal
 
-pub bounds-self-block : goal.bounds-self-block
-bounds-self-block c = (inside _ _ _ _ _ _ c.requires.asked.1).cell
-
-pub bounds-self-block-2 : goal.bounds-self-block-2
-bounds-self-block-2 c = (inside _ _ _ _ _ _ c.requires.asked.1).cell
-
 pub bounds-self-place : goal.bounds-self-place
 bounds-self-place c = omega (arith, (inside _ _ _ _ _ _ c.requires.asked.1).state, c.requires.asked.2)
 
