@@ -12,26 +12,15 @@ use Rattle.bench.specs.Held.{spaced, slot, state_at, cell_at, shaped, page_at, b
 use Rattle.bench.specs.Made.{OnSheet, Fresh, Misfit, listed, marked}
 use Rattle.bench.proofs.Space.{row_end, space_parts}
 use Rattle.bench.proofs.Rows.{front_long, front_at}
-use Rattle.bench.proofs.Sheet.{true_T}
+use Rattle.std.proofs.lemmas.Float.{T_from_true}
+use Rattle.std.proofs.Math.Bool.{or_assoc, or-true, or-false}
 
 -- ---- the list of bad blocks
 
-or_assoc : (a b c : Bool) → (a || (b || c)) ≡ ((a || b) || c)
-or_assoc true b c = refl
-or_assoc false b c = refl
-
-or_true : (a : Bool) → (a || true) ≡ true
-or_true true = refl
-or_true false = refl
-
-or_false : (a : Bool) → (a || false) ≡ a
-or_false true = refl
-or_false false = refl
-
 listed_push : (xs : List ℕ) (x k : ℕ) → listed (xs ++ x ∷ []) k ≡ (listed xs k || eqb k x)
 unfolding listed
-listed_push [] x k = or_false (eqb k x)
-listed_push (y ∷ xs) x k = ap (λ (t : Bool). eqb k y || t) (listed_push xs x k) ∙ or_assoc (eqb k y) (listed xs k) (eqb k x)
+listed_push [] x k = or-false (eqb k x)
+listed_push (y ∷ xs) x k = ap (λ (t : Bool). eqb k y || t) (listed_push xs x k) ∙ sym (or_assoc (eqb k y) (listed xs k) (eqb k x))
 
 pub listed_none : (k : ℕ) → false ≡ listed [] k
 unfolding listed
@@ -46,8 +35,8 @@ mark_more bad i b blocks cells next h is inv here others k l =
     let more : listed (take (i + 1) bad) k ≡ (listed (take i bad) k || eqb k b) =
     ap (λ (xs : List ℕ). listed xs k) (take_more bad i 0 h) ∙ listed_push (take i bad) (get_or bad i 0) k ∙ ap (λ (x : ℕ). listed (take i bad) k || eqb k x) (sym is) in
     elim (cases_eq k b) [
-      | inl e ↦ ap (cell_at next) e ∙ here ∙ ap marked (sym (more ∙ ap (λ (t : Bool). listed (take i bad) k || t) (eq-eqb k b e) ∙ or_true (listed (take i bad) k)))
-      | inr ne ↦ others k ne ∙ inv k l ∙ ap marked (sym (more ∙ ap (λ (t : Bool). listed (take i bad) k || t) (ne_eqb k b ne) ∙ or_false (listed (take i bad) k)))
+      | inl e ↦ ap (cell_at next) e ∙ here ∙ ap marked (sym (more ∙ ap (λ (t : Bool). listed (take i bad) k || t) (eq-eqb k b e) ∙ or-true (listed (take i bad) k)))
+      | inr ne ↦ others k ne ∙ inv k l ∙ ap marked (sym (more ∙ ap (λ (t : Bool). listed (take i bad) k || t) (ne_eqb k b ne) ∙ or-false (listed (take i bad) k)))
     ]
 
 -- ---- the chip
@@ -86,12 +75,12 @@ module _ (bytes : List ℕ) (states : List PageState) (cells : List BlockCell) (
   fresh sheet space lit few =
       let n : chip.blocks ≡ blocks = cond-true (spaced (length bytes) (length states) (length cells) blocks pages) blocks 0 space in
       record {
-        new = (omega (arith, sheet.some_blocks), omega (arith, sheet.few_blocks), sheet.some_pages, sheet.few_pages, sheet.eights, omega arith, true_T on lit, fresh-block);
+        new = (omega (arith, sheet.some_blocks), omega (arith, sheet.few_blocks), sheet.some_pages, sheet.few_pages, sheet.eights, omega arith, T_from_true on lit, fresh-block);
         blocks_are = n;
         pages_are = refl;
         bad_are = λ k l.
             ap (λ (b : Block). b.bad) (cond-true (ltb k blocks) _ _ (lt-ltb k blocks l))
-            ∙ ap (λ (c : BlockCell). c.bad || eqb c.erases limit) (cells_are k l) ∙ or_false (listed bad k);
+            ∙ ap (λ (c : BlockCell). c.bad || eqb c.erases limit) (cells_are k l) ∙ or-false (listed bad k);
       }
 
   bad-is : (k : ℕ) → k < blocks → (chip.block k).bad ≡ (listed bad k || false)

@@ -1,7 +1,8 @@
 -- What the memory becomes is one of the outcomes of the data sheet. Assumes nothing.
 use Rattle.std.proofs.Common.{◌≡◌, ℕ, ◌+◌, ◌-◌, ◌*◌, ◌<◌, ◌≤◌, Bool, true, false, cond, not, ◌||◌, T, eqb, ltb, ◌⊎◌, List, length, sym, refl, ap, ◌∙◌, subst, ap₂, inl, inr, arith}
 use mathlib.Core.Path.{fun_ext}
-use Rattle.std.proofs.lemmas.Bool.{cases_Bool, cases_eq, cond-true, cond-false, lt-ltb, ltb-true, eq-eqb, ne_eqb, eqb-false, or_parts, or_from}
+use Rattle.std.proofs.lemmas.Bool.{cases_Bool, cases_eq, cond-true, cond-false, lt-ltb, ltb-true, eq-eqb, ne_eqb, eqb-false, or_parts, or_from, not_from_false}
+use Rattle.std.proofs.lemmas.Float.{T_from_true}
 use Rattle.drive.specs.Nand.{Nand, Block, Page, Blank, Written, Torn, MayErase, MayProgram, MayFail, Erasing, Programming, Reading, Shows, erased, half_erased, broken, frayed, put_page, counted, dark, blank_page}
 use Rattle.drive.specs.Bits.{all_bytes, nearly}
 use Rattle.drive.specs.declared.Answer.{Answer}
@@ -18,16 +19,6 @@ pub not_T : (b : Bool) → T (not b) → b ≡ false
 not_T true t = absurd t
 not_T false t = refl
 
-pub true_T : (b : Bool) → b ≡ true → T b
-true_T true e = tt
-true_T false e = let z : ◌≡◌ {A = ℕ} 0 1 = cc in absurd (omega arith)
-
-pub fine_not_failed : (a : Answer) → a ≡ Fine → a ≡ Failed → ⊥
-fine_not_failed a p q = let z : ◌≡◌ {A = ℕ} 0 1 = cc in omega arith
-
-pub dark_not_failed : (a : Answer) → a ≡ Dark → a ≡ Failed → ⊥
-dark_not_failed a p q = let z : ◌≡◌ {A = ℕ} 0 1 = cc in omega arith
-
 frayed-shaped : (s : PageState) (bs : List ℕ) → shaped (frayed_state s) bs ≡ frayed (shaped s bs)
 unfolding frayed
 frayed-shaped state.Blank bs = refl
@@ -35,8 +26,8 @@ frayed-shaped state.Written bs = refl
 frayed-shaped state.Torn bs = refl
 
 pub not_blank : (s : PageState) → (s ≡ state.Written) ⊎ (s ≡ state.Torn) → s ≡ state.Blank → ⊥
-not_blank s (inl e) b = let z : ◌≡◌ {A = ℕ} 0 1 = cc in omega arith
-not_blank s (inr e) b = let z : ◌≡◌ {A = ℕ} 0 1 = cc in omega arith
+not_blank s (inl e) b = cc
+not_blank s (inr e) b = cc
 
 -- a block, and a page of it, by its place
 pub block_is : (bytes : List ℕ) (states : List PageState) (cells : List BlockCell) (blocks pages k left : ℕ) (on : Bool) → k < (nand_of bytes states cells blocks pages on left).blocks
@@ -201,15 +192,11 @@ program_goes {n} {m} {k} {p} {b} lit e = subst (λ (x : Nand). Programming n k p
 
 -- ---- when the power is gone, and reading
 
-not_on : (b : Bool) → b ≡ false → T (not b)
-not_on true e = let z : ◌≡◌ {A = ℕ} 0 1 = cc in absurd (omega arith)
-not_on false e = tt
-
 pub erase_gone : {n m : Nand} {k : ℕ} → n.on ≡ false → m ≡ dark (counted n) → Erasing n k Dark m
-erase_gone {n} {m} {k} off e = subst (λ (x : Nand). Erasing n k Dark x) (sym e) (Erasing.gone (not_on n.on off))
+erase_gone {n} {m} {k} off e = subst (λ (x : Nand). Erasing n k Dark x) (sym e) (Erasing.gone (T_from_true (not n.on) (not_from_false n.on off)))
 
 pub program_gone : {n m : Nand} {k p : ℕ} {b : List ℕ} → n.on ≡ false → m ≡ dark (counted n) → Programming n k p b Dark m
-program_gone {n} {m} {k} {p} {b} off e = subst (λ (x : Nand). Programming n k p b Dark x) (sym e) (Programming.gone (not_on n.on off))
+program_gone {n} {m} {k} {p} {b} off e = subst (λ (x : Nand). Programming n k p b Dark x) (sym e) (Programming.gone (T_from_true (not n.on) (not_from_false n.on off)))
 
 pub read_goes : {n m : Nand} {k p : ℕ} {r : List ℕ} → m ≡ dark (counted n) → Reading n k p r Dark m
 read_goes {n} {m} {k} {p} {r} e = subst (λ (x : Nand). Reading n k p r Dark x) (sym e) (Reading.goes r)
@@ -237,9 +224,9 @@ pub erase_by : (a : Answer) (bytes : List ℕ) (states states' : List PageState)
     → ((i : ℕ) → k * pages ≤ i → i < k * pages + pages → state_at states' i ≡ worn_state a (state_at states i)) → cell_at cells' k ≡ worn_cell a (cell_at cells k)
     → Erasing (nand_of bytes states cells blocks pages on left) k a (nand_of bytes states' cells' blocks pages (still_on a) (left - 1))
 erase_by a bytes s s' c c' n w k left false asked lit may early sl cl sk ck sh ch = absurd lit
-erase_by Fine bytes s s' c c' n w k left true asked lit may early sl cl sk ck sh ch = erase-done bytes s s' c c' n w k left true asked lit sl cl sk ck sh ch (early (fine_not_failed Fine refl))
+erase_by Fine bytes s s' c c' n w k left true asked lit may early sl cl sk ck sh ch = erase-done bytes s s' c c' n w k left true asked lit sl cl sk ck sh ch (early (λ e. cc))
 erase_by Failed bytes s s' c c' n w k left true asked lit may early sl cl sk ck sh ch = erase-fails bytes s s' c c' n w k left true asked lit sl cl sk ck sh ch (may refl)
-erase_by Dark bytes s s' c c' n w k left true asked lit may early sl cl sk ck sh ch = erase-goes bytes s s' c c' n w k left true asked lit sl cl sk ck sh ch (early (dark_not_failed Dark refl))
+erase_by Dark bytes s s' c c' n w k left true asked lit may early sl cl sk ck sh ch = erase-goes bytes s s' c c' n w k left true asked lit sl cl sk ck sh ch (early (λ e. cc))
 
 pub program_by : (a : Answer) (bytes bytes' : List ℕ) (states states' : List PageState) (cells cells' : List BlockCell) (blocks pages k p left : ℕ) (on : Bool) (b : List ℕ)
     → MayProgram (nand_of bytes states cells blocks pages on left) k p b → T on → (a ≡ Failed → MayFail (nand_of bytes states cells blocks pages on left) k)

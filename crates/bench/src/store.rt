@@ -158,6 +158,7 @@ fn count_bad(cells: &[BlockCell]) -> usize
 }
 
 // The fewest erasings of a good one of these blocks.
+// One function for this and `most_of` would have to be lent the library's method as a closure, which is longer.
 fn least_of(cells: &[BlockCell]) -> Option<u32>
     ensures { result ≡ reduce min (map (λ c. c.erases) (filter (λ c. not (bad_cell c)) cells.now)) }
 {
