@@ -1,6 +1,5 @@
 -- The least of the pairs of arrival and tag is that of the command that came first. Assumes nothing.
-use Rattle.std.proofs.Common.{◌≡◌, ℕ, zero, suc, ◌+◌, ◌<◌, ◌≤◌, false, Option, Some, None, List, refl, sym, ap, subst, ⊎_elim, arith}
-use Rattle.std.proofs.lemmas.Bool.{cases_lt}
+use Rattle.std.proofs.Common.{◌≡◌, ℕ, zero, suc, ◌+◌, false, Option, Some, None, List, refl, ap, subst, arith}
 use Rattle.std.proofs.lemmas.Bool.Decides.{nat_tests}
 use Rattle.std.specs.List.{filter_map, cons_option, fold, reduce, range_with_len}
 use Rattle.std.specs.Option.{option_map}
@@ -21,15 +20,14 @@ earlier x y = min_by_ordering (ordering_then (nat_cmp x.0 y.0) (nat_cmp x.1 y.1)
 abbrev IsFirst : Queue → ℕ → ℕ × ℕ → Type 0
 IsFirst q n x = First q n (Some x.1) × (x.0 ≡ came (slot_at q x.1))
 
-last_tag : (P : ℕ → Type 0) (a : ℕ) → ((u : ℕ) → u < a → P u) → P a → (u : ℕ) → u < a + 1 → P u
-last_tag P a f p u l = ⊎_elim (λ (k : u < a). f u k) (λ (k : a ≤ u). subst P (omega arith) p) (cases_lt u a)
-
+-- a tag without a command changes neither the pair nor that there is none
 passes : (q : Queue) (a : ℕ) (x : ℕ × ℕ) → busy (slot_at q a) ≡ false → IsFirst q a x → IsFirst q (a + 1) x
 passes q a x b f = grind (arith, nat_tests)
 
 none_passes : (q : Queue) (a : ℕ) → busy (slot_at q a) ≡ false → First q a None → First q (a + 1) None
-none_passes q a b f = last_tag (λ u. busy (slot_at q u) ≡ false) a f b
+none_passes q a b f = grind (arith, nat_tests)
 
+-- the first command that is met, and a further one
 opens : (q : Queue) (a : ℕ) (p : Pending) → slot_at q a ≡ Some p → First q a None → IsFirst q (a + 1) (p.since, a)
 opens q a p e f = grind (arith, nat_tests)
 
@@ -62,4 +60,7 @@ found q (suc n) a f =
 
 -- the least pair of all
 pub least_first : (q : Queue) (n : ℕ) (r : Option (ℕ × ℕ)) → r ≡ reduce earlier (filter_map (arrival q) (range_with_len 0 n)) → First q n (option_map (λ (x : ℕ × ℕ). x.1) r)
-least_first q n r e = subst (λ o. First q n (option_map (λ (x : ℕ × ℕ). x.1) o)) (sym e) (subst (λ k. First q k (option_map (λ (x : ℕ × ℕ). x.1) (reduce earlier (filter_map (arrival q) (range_with_len 0 n))))) (omega arith) (found q n 0 (λ u l. absurd (omega arith))))
+least_first q n r e =
+    let first : First q (0 + n) _ = found q n 0 (λ u l. absurd (omega arith)) in
+    let at_n : 0 + n ≡ n = omega arith in
+    rw e (subst (λ k. First q k (option_map (λ (x : ℕ × ℕ). x.1) (reduce earlier (filter_map (arrival q) (range_with_len 0 n))))) at_n first)
