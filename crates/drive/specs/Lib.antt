@@ -8,6 +8,7 @@ pub mod Shown
 pub mod ChipOps
 pub mod Room
 pub mod Journals
+pub mod Stores
 pub mod Ties
 pub mod TiesLaws
 pub mod Queue

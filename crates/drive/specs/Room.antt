@@ -1,9 +1,10 @@
 -- What lies where in the room.
 -- Assumes nothing.
-use Rattle.std.specs.Prelude.{ℕ, ◌+◌, ◌*◌, ◌≤◌, cond, List, length, ◌==◌}
+use Rattle.std.specs.Prelude.{ℕ, ◌+◌, ◌-◌, ◌*◌, ◌/◌, ◌%◌, ◌≤◌, cond, List, length, Some, None, Option, ◌==◌}
 use Rattle.drive.specs.declared.room.Shape.{Shape}
 use Rattle.drive.specs.declared.room.Standing.{Standing}
 use Rattle.drive.specs.declared.room.Standing.TheVariants.{Free, Kept, Unreadable}
+use Rattle.drive.specs.declared.room.Address.{Address}
 
 -- the room is as large as the geometry asks
 abbrev pub Lent : Shape → List ℕ → Type 0
@@ -26,3 +27,7 @@ code_of Unreadable = 2
 -- and back: anything else is unreadable
 abbrev pub standing : ℕ → Standing
 standing k = cond (k == 0) Free (cond (k == 1) Kept Unreadable)
+
+-- the page that the place of a sector names, 0 for none
+abbrev pub placed : ℕ → Option Address
+placed k = cond (k == 0) None (Some (record { block = (k - 1) / 256; page = (k - 1) % 256 }))

@@ -5,7 +5,7 @@ use Rattle.drive.specs.declared.survey.Candidate.{Candidate}
 
 -- more blocks were bad when it was taken, or as many and its number is higher
 abbrev pub newer : Candidate → Candidate → Bool
-newer a b = nat_lt b.bad a.bad || (a.bad == b.bad && nat_lt b.number a.number)
+newer a b = nat_lt b.age.bad a.age.bad || (a.age.bad == b.age.bad && nat_lt b.age.number a.age.number)
 
 -- the newer of the two; of equals the second
 abbrev pub best_of : Option Candidate → Candidate → Candidate

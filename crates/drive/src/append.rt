@@ -1,88 +1,64 @@
 // Appending to the log: one try at a time.
-ghost use Rattle.std.specs.Prelude.{◌≡◌, ℕ, ◌<◌, ◌≤◌};
-ghost use Rattle.drive.specs.Nand.{Nand};
-ghost use Rattle.drive.specs.Journals.{Ready, Went, Inside};
+ghost use Rattle.std.specs.Prelude.{◌≡◌, ℕ, ◌<◌, ◌≤◌, IfOk, IfSome};
 
-use crate::journal::Journal;
 use crate::room::{LIST, PAGE};
+use crate::store::Store;
 use crate::{Chip, Gone};
 use record::marks::Content;
 use record::numbers::PageIndex;
 
-impl Journal {
+impl<C: Chip> Store<'_, C> {
+    ghost use Rattle.drive.specs.Stores.{Went};
+
     // Takes the free block with the lowest number and writes its header; none if that failed or no block is left.
-    pub fn open_block<C: Chip>(
-        &mut self,
-        c: &mut C,
-        room: &mut [u8],
-        commit: PageIndex,
-    ) -> Result<Option<u32>, Gone>
-        requires ready { Ready (C.nand c.old) self.old room.old }
-        requires soon { 2 ≤ self.old.asks }
-        ensures went { Went 2 result self.old (C.nand c.new) self.new room.new }
-        ensures inside { Inside result self.new }
+    fn open_block(&mut self, commit: PageIndex) -> Result<Option<u32>, Gone>
+        requires { 2 ≤ self.old.journal.now.asks }
+        ensures went { Went 2 result self.old self.new }
+        ensures inside { IfOk result (λ o. IfSome o (λ b. b < self.new.journal.now.shape.blocks)) }
     {
-        let Some(block) = self.lowest(c, room) else {
-            self.give_up(room);
+        let Some(block) = self.lowest() else {
+            self.journal.stuck = true;
             return Ok(None);
         };
-        if !self.take_block(c, room, block)? {
+        if !self.take_block(block)? {
             return Ok(None);
         }
-        self.make_header(room, commit);
-        let written = self.put(c, room, LIST)?;
-        if written && block < self.shape.blocks {
-            Ok(Some(block))
-        } else {
-            Ok(None)
-        }
+        self.make_header(commit);
+        let written = self.put(LIST)?;
+        Ok(written.then_some(block))
     }
 
     // Appends a record, whose data stand in the room, to the newest block or to a successor with this commit page; false if that failed.
-    pub fn append<C: Chip>(
-        &mut self,
-        c: &mut C,
-        room: &mut [u8],
-        content: Content,
-        commit: PageIndex,
-    ) -> Result<bool, Gone>
-        requires ready { Ready (C.nand c.old) self.old room.old }
-        requires soon { 3 ≤ self.old.asks }
-        ensures { Went 3 result self.old (C.nand c.new) self.new room.new }
+    pub fn append(&mut self, content: Content, commit: PageIndex) -> Result<bool, Gone>
+        requires { 3 ≤ self.old.journal.now.asks }
+        ensures { Went 3 result self.old self.new }
     {
-        if self.head.is_none() {
-            let done = self.append_behind(c, room, content, commit)?;
-            return Ok(done);
+        if !self.journal.has_room() {
+            return self.append_behind(content, commit);
         }
-        self.make_record(room, content);
-        if !self.put(c, room, PAGE)? {
+        self.make_record(content);
+        if !self.put(PAGE)? {
             return Ok(false);
         }
-        self.commit_record(room, content);
+        self.note_record(content);
         Ok(true)
     }
 
     // Appends it to a successor of the newest block.
-    fn append_behind<C: Chip>(
-        &mut self,
-        c: &mut C,
-        room: &mut [u8],
-        content: Content,
-        commit: PageIndex,
-    ) -> Result<bool, Gone>
-        requires ready { Ready (C.nand c.old) self.old room.old }
-        requires soon { 3 ≤ self.old.asks }
-        ensures { Went 3 result self.old (C.nand c.new) self.new room.new }
+    fn append_behind(&mut self, content: Content, commit: PageIndex) -> Result<bool, Gone>
+        requires { 3 ≤ self.old.journal.now.asks }
+        ensures { Went 3 result self.old self.new }
     {
-        self.release_kept(room);
-        let Some(block) = self.open_block(c, room, commit)? else {
+        self.release();
+        let Some(block) = self.open_block(commit)? else {
             return Ok(false);
         };
-        self.make_record(room, content);
-        if !self.put(c, room, PAGE)? || block >= self.shape.blocks {
+        self.make_record(content);
+        if !self.put(PAGE)? {
             return Ok(false);
         }
-        self.commit_block(room, block, content);
+        self.adopt(block);
+        self.note_record(content);
         Ok(true)
     }
 }

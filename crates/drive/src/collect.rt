@@ -1,198 +1,145 @@
 // Garbage collection: the oldest records are looked at, and those that are still needed are copied to the head.
-ghost use Rattle.std.specs.Prelude.{◌≡◌, ℕ, ◌<◌, ◌≤◌, length};
-ghost use Rattle.drive.specs.Nand.{Nand};
+ghost use Rattle.std.specs.Prelude.{◌≡◌, ℕ, ◌<◌, ◌≤◌, IfSome};
 ghost use Rattle.words.specs.Words.{value_at};
-ghost use Rattle.drive.specs.Room.{place_at};
+ghost use Rattle.drive.specs.Room.{place_at, placed};
 ghost use Rattle.drive.specs.Host.{noughts};
 ghost use Rattle.laws.specs.Log.{Log, contents};
 ghost use Rattle.drive.specs.Places.{Tabled};
-ghost use Rattle.drive.specs.Journals.{Ready, Went, Sound, Noted, Stands, Stays};
 
-use crate::journal::Journal;
-use crate::room::{LIST, PAGE, first_of, place_of, records_of, set_place, successor_of};
+use crate::room::{Address, LIST, PAGE};
+use crate::store::Store;
 use crate::{Chip, Gone};
 use record::marks::{Content, Origin, RecordMark};
 use record::numbers::PageIndex;
 
-// Mends the data of the page in the room.
-pub fn unseal_page(room: &mut [u8])
-    requires { 1048576 ≤ length room.old }
-{
-    codec::unseal(&mut room[PAGE..LIST]);
-}
+// The tail and the places.
+impl<C: Chip> Store<'_, C> {
+    ghost use Rattle.drive.specs.Stores.{Spent};
 
-impl Journal {
-    // The page of the oldest record, 0 if it is none of its block's.
-    fn tail_page(&self, room: &[u8]) -> u32
-        requires { Sound self.now room.now }
-        ensures { result < 256 }
-    {
-        let offset = self
-            .tail
-            .saturating_sub(first_of(room, self.shape, self.tail_block));
-        if offset < 255 { offset as u32 + 1 } else { 0 }
+    // Where the oldest record is, if it is one of its block's.
+    fn tail_place(&self) -> Option<Address> {
+        let block = self.journal.tail_block;
+        let offset = self.journal.tail.saturating_sub(self.first_of(block));
+        if offset >= 255 {
+            return None;
+        }
+        let page = offset as u32 + 1;
+        Some(Address { block, page })
     }
 
     // The tail moves on by one record, and to the next block where that was the block's last.
-    fn pass(&mut self, room: &[u8])
-        requires { Sound self.old room.now }
-        ensures { Noted self.old self.new room.now }
+    fn pass(&mut self)
+        ensures { Spent 0 self.old self.new }
     {
-        self.tail = self.tail.saturating_add(1);
-        let first = first_of(room, self.shape, self.tail_block);
-        let records = records_of(room, self.shape, self.tail_block);
-        let next = successor_of(room, self.shape, self.tail_block);
-        if self.tail_block != self.block
-            && self.tail >= first.saturating_add(u64::from(records))
-            && next < self.shape.blocks
+        self.journal.tail = self.journal.tail.saturating_add(1);
+        let block = self.journal.tail_block;
+        let next = self.successor_of(block);
+        if block != self.journal.block
+            && self.journal.tail >= self.end_of(block)
+            && next < self.journal.shape.blocks
         {
-            self.tail_block = next;
+            self.journal.tail_block = next;
         }
     }
 
-    // Where a sector is, 0 for nowhere.
-    fn place(&self, room: &[u8], sector: u32) -> u32
-        requires { Sound self.now room.now }
-        ensures { sector < self.now.shape.total → result ≡ value_at 4 room.now (place_at self.now.shape.blocks sector) }
+    // Where a sector is. Without a place it holds noughts, by every log whose places the room has.
+    pub fn find(&self, sector: u32) -> Option<Address>
+        ensures value { sector < self.now.journal.now.shape.total → result ≡ placed (value_at 4 self.now.room.now (place_at self.now.journal.now.shape.blocks sector)) }
+        ensures nowhere { (l : Log) → Tabled self.now.journal.now.shape self.now.room.now l → sector < self.now.journal.now.shape.total → result ≡ None → contents l sector ≡ noughts }
     {
-        if sector < self.shape.total {
-            place_of(room, self.shape, sector)
+        if sector < self.journal.shape.total {
+            self.place_of(sector)
         } else {
-            0
+            None
         }
     }
 
     // Notes that a sector is where the newest record is.
-    fn note_place(&self, room: &mut [u8], sector: u32)
-        requires { Sound self.now room.old }
+    pub fn note_place(&mut self, sector: u32)
+        ensures { Spent 0 self.old self.new }
     {
-        if sector < self.shape.total {
-            set_place(room, self.shape, sector, 256 * self.block + self.count + 1);
+        if sector < self.journal.shape.total {
+            let newest = Address {
+                block: self.journal.block,
+                page: self.journal.count,
+            };
+            self.set_place(sector, newest);
         }
     }
 
-    // Whether a record, on a page of the oldest block, is the newest of its sector.
-    fn is_needed(&self, room: &[u8], content: Content, page: u32) -> bool
-        requires sound { Sound self.now room.now }
-        requires within { page < 256 }
+    // Whether the oldest record is the newest of its sector.
+    fn is_needed(&self, content: Content) -> bool {
+        let Content::Data { sector, .. } = content else {
+            return false;
+        };
+        let place = self.find(sector.number);
+        place.is_some() && place == self.tail_place()
+    }
+
+    // Mends the data of the page in the room.
+    pub fn mend_page(&mut self)
+        ensures { Spent 0 self.old self.new }
     {
-        match content {
-            Content::Data { origin: _, sector } => self.place(room, sector.number)
-                == 256 * self.tail_block + page + 1,
-            _ => false,
+        codec::unseal(&mut self.room[PAGE..LIST]);
+    }
+}
+
+impl<C: Chip> Store<'_, C> {
+    ghost use Rattle.drive.specs.Stores.{Went};
+
+    // The oldest record, if it can be read.
+    fn show_oldest(&mut self) -> Result<Option<RecordMark>, Gone>
+        requires { 1 ≤ self.old.journal.now.asks }
+        ensures { Went 1 result self.old self.new }
+    {
+        let Some(place) = self.tail_place() else {
+            return Ok(None);
+        };
+        match self.show_record(place.block, place.page)? {
+            Some(record) if record.index.index == self.journal.tail => Ok(Some(record)),
+            _ => Ok(None),
         }
     }
-}
 
-// The tail and the places, for whoever has a chip at hand.
-impl Journal {
-    // The tail moves on.
-    pub fn move_tail(&mut self, room: &[u8])
-        requires { Stands self.old room.now }
-        ensures { Stays self.old room.now self.new room.now }
-    {
-        self.pass(room);
-    }
-
-    // Notes where the newest record's sector is.
-    pub fn commit_place(&self, room: &mut [u8], sector: u32)
-        requires { Stands self.now room.old }
-        ensures { Stays self.now room.old self.now room.new }
-    {
-        self.note_place(room, sector);
-    }
-
-    // Where a sector is, 0 for nowhere: it then holds noughts, by every log whose places the room has.
-    pub fn find(&self, room: &[u8], sector: u32) -> u32
-        requires { Stands self.now room.now }
-        ensures { (l : Log) → Tabled self.now.shape room.now l → sector < self.now.shape.total → result ≡ 0 → contents l sector ≡ noughts }
-    {
-        self.place(room, sector)
-    }
-
-    // The page of the oldest record.
-    fn oldest_page(&self, room: &[u8]) -> u32
-        requires { Stands self.now room.now }
-        ensures { result < 256 }
-    {
-        self.tail_page(room)
-    }
-
-    // The sector that the oldest record, on this page, still holds, if it does.
-    fn needed(&self, room: &[u8], record: RecordMark, page: u32) -> bool
-        requires stands { Stands self.now room.now }
-        requires within { page < 256 }
-    {
-        self.is_needed(room, record.content, page)
-    }
-
-    // Mends the page that was read.
-    pub fn mend_page(&self, room: &mut [u8])
-        requires { Stands self.now room.old }
-        ensures { Stays self.now room.old self.now room.new }
-    {
-        unseal_page(room);
-    }
-}
-
-impl Journal {
     // Looks at the oldest record: if it is still needed it is copied, and the tail moves on. False if that failed.
-    pub fn look<C: Chip>(&mut self, c: &mut C, room: &mut [u8]) -> Result<bool, Gone>
-        requires ready { Ready (C.nand c.old) self.old room.old }
-        requires soon { 4 ≤ self.old.asks }
-        ensures { Went 4 result self.old (C.nand c.new) self.new room.new }
+    pub fn look(&mut self) -> Result<bool, Gone>
+        requires { 4 ≤ self.old.journal.now.asks }
+        ensures { Went 4 result self.old self.new }
     {
-        let page = self.oldest_page(room);
-        let block = self.tail_block;
-        if page >= self.shape.pages || block >= self.shape.blocks {
-            self.give_up(room);
-            return Ok(false);
-        }
-        let Some(record) = self.show_record(c, room, block, page)? else {
-            self.give_up(room);
+        let Some(record) = self.show_oldest()? else {
+            self.journal.stuck = true;
             return Ok(false);
         };
-        if record.index.index != self.tail {
-            self.give_up(room);
-            return Ok(false);
+        if self.is_needed(record.content) {
+            return self.copy(record.content);
         }
-        if self.needed(room, record, page) {
-            let copied = self.copy(c, room, record.content)?;
-            return Ok(copied);
-        }
-        self.move_tail(room);
+        self.pass();
         Ok(true)
     }
 
     // Copies the oldest record, which was just read, to the head, and moves the tail on.
-    fn copy<C: Chip>(&mut self, c: &mut C, room: &mut [u8], content: Content) -> Result<bool, Gone>
-        requires ready { Ready (C.nand c.old) self.old room.old }
-        requires soon { 3 ≤ self.old.asks }
-        ensures { Went 3 result self.old (C.nand c.new) self.new room.new }
+    fn copy(&mut self, content: Content) -> Result<bool, Gone>
+        requires { 3 ≤ self.old.journal.now.asks }
+        ensures { Went 3 result self.old self.new }
     {
-        self.mend_page(room);
-        if !self.append(c, room, as_copy(content), PageIndex { index: 1 })? {
+        self.mend_page();
+        if !self.append(as_copy(content), PageIndex { index: 1 })? {
             return Ok(false);
         }
-        if let Content::Data { origin: _, sector } = content {
-            self.commit_place(room, sector.number);
+        if let Content::Data { sector, .. } = content {
+            self.note_place(sector.number);
         }
-        self.move_tail(room);
+        self.pass();
         Ok(true)
     }
 }
 
 // A record as a copy of it is marked.
 fn as_copy(content: Content) -> Content {
+    let origin = Origin::Copied;
     match content {
-        Content::Data { origin: _, sector } => Content::Data {
-            origin: Origin::Copied,
-            sector,
-        },
-        Content::Table { origin: _, page } => Content::Table {
-            origin: Origin::Copied,
-            page,
-        },
+        Content::Data { sector, .. } => Content::Data { origin, sector },
+        Content::Table { page, .. } => Content::Table { origin, page },
         seal => seal,
     }
 }

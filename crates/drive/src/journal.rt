@@ -1,12 +1,11 @@
-// What the drive knows of its log, and the asks that it makes for it.
-ghost use Rattle.std.specs.Prelude.{◌≡◌, ℕ, ◌+◌, ◌<◌, ◌≤◌, false, not, ◌&&◌, length, IfSome, if◌then◌else◌};
-ghost use Rattle.drive.specs.Nand.{Nand};
-ghost use Rattle.drive.specs.Journals.{Ready, Went, Free};
+// What the drive knows of its log.
+ghost use Rattle.std.specs.Prelude.{◌≡◌, ℕ, ◌+◌, ◌*◌, ◌<◌, ◌≤◌, not, ◌&&◌, if◌then◌else◌};
 
-use crate::chip_ops::{Head, Programmed, erase_block, program_next, read_mark};
-use crate::room::{LIST, PAGE, Shape, is_free, number_of};
-use crate::{Chip, Gone};
-use record::marks::{Mark, RecordMark};
+use crate::chip_ops::Head;
+use crate::room::Shape;
+use record::headers::Predecessor;
+use record::marks::{Content, Origin};
+use record::numbers::{BlockIndex, BlockNumber, RecordCount};
 
 // The log's newest block and what its next records carry.
 #[derive(Drop)]
@@ -45,110 +44,49 @@ pub struct Journal {
     pub stuck: bool,
     // what sectors hold isn't known
     pub blind: bool,
+    // the numbers are within the bounds of the sheet, and the blocks that are named are there
+    ghost few: { shape.blocks ≤ 65536 },
+    ghost short: { shape.pages ≤ 256 },
+    ghost inside: { block < shape.blocks },
+    ghost counted: { count < 256 },
+    ghost tail_inside: { tail_block < shape.blocks },
+    ghost oldest_inside: { oldest < shape.blocks },
 }
 
 impl Journal {
-    // Reads a page into the room, and the mark that it shows.
-    pub fn show<C: Chip>(
-        &mut self,
-        c: &mut C,
-        room: &mut [u8],
-        block: u32,
-        page: u32,
-    ) -> Result<Option<Mark>, Gone>
-        requires ready { Ready (C.nand c.old) self.old room.old }
-        requires soon { 1 ≤ self.old.asks }
-        requires within { (block < self.old.shape.blocks) × (page < self.old.shape.pages) }
-        ensures { Went 1 result self.old (C.nand c.new) self.new room.new }
-    {
-        let mark = read_mark(c, room, block, page)?;
-        self.asks -= 1;
-        Ok(mark)
-    }
+    ghost use Rattle.drive.specs.Journals.{Unknown, Alike};
 
-    // The same of a page that should be a record.
-    pub fn show_record<C: Chip>(
-        &mut self,
-        c: &mut C,
-        room: &mut [u8],
-        block: u32,
-        page: u32,
-    ) -> Result<Option<RecordMark>, Gone>
-        requires ready { Ready (C.nand c.old) self.old room.old }
-        requires soon { 1 ≤ self.old.asks }
-        requires within { (block < self.old.shape.blocks) × (page < self.old.shape.pages) }
-        ensures { Went 1 result self.old (C.nand c.new) self.new room.new }
+    // Before anything is known of a chip.
+    pub fn unknown(blocks: u32, pages: u32) -> Self
+        requires { (0 < blocks) × ((blocks ≤ 65536) × (pages ≤ 256)) }
+        ensures { Unknown blocks pages result }
     {
-        let Some(mark) = self.show(c, room, block, page)? else {
-            return Ok(None);
-        };
-        Ok(as_record(mark))
-    }
-
-    // Programs a page of the room as the head's next page; false if there is no head, or its block went bad.
-    pub fn put<C: Chip>(&mut self, c: &mut C, room: &[u8], at: usize) -> Result<bool, Gone>
-        requires ready { Ready (C.nand c.old) self.old room.now }
-        requires soon { 1 ≤ self.old.asks }
-        requires within { at ≤ 266496 }
-        ensures { Went 1 result self.old (C.nand c.new) self.new room.now }
-    {
-        let Some(head) = self.head.take() else {
-            return Ok(false);
-        };
-        self.asks -= 1;
-        match program_next(c, head, &room[at..at + 4352])? {
-            Programmed::Next(next) => {
-                self.head = Some(next);
-                Ok(true)
-            }
-            Programmed::Full => Ok(true),
-            Programmed::Failed => {
-                self.bad = self.bad.saturating_add(1);
-                Ok(false)
-            }
-        }
-    }
-
-    // Erases a block, which is then the head with a number above all others; false if it went bad.
-    pub fn take_block<C: Chip>(&mut self, c: &mut C, room: &[u8], block: u32) -> Result<bool, Gone>
-        requires ready { Ready (C.nand c.old) self.old room.now }
-        requires soon { 1 ≤ self.old.asks }
-        requires within { (block < (C.nand c.old).blocks) × (((C.nand c.old).block block).bad ≡ false) }
-        ensures { Went 1 result self.old (C.nand c.new) self.new room.now }
-    {
-        self.asks -= 1;
-        self.head = None;
-        self.highest = self.highest.saturating_add(1);
-        match erase_block(c, block)? {
-            Some(head) => {
-                self.head = Some(head);
-                Ok(true)
-            }
-            None => {
-                self.bad = self.bad.saturating_add(1);
-                Ok(false)
-            }
-        }
-    }
-
-    // The free block with the lowest number, if one is left.
-    pub fn lowest<C: Chip>(&self, c: &C, room: &[u8]) -> Option<u32>
-        requires ready { Ready (C.nand c.now) self.now room.now }
-        ensures { IfSome result (λ b. Free (C.nand c.now) b) }
-    {
-        let mut best = self.shape.blocks;
-        let mut least = u64::MAX;
-        for b in 0..self.shape.blocks {
-            let number = number_of(room, self.shape, b);
-            if number < least && !c.is_bad(b) && is_free(room, self.shape, b) {
-                best = b;
-                least = number;
-            }
-        }
-        if best < self.shape.blocks {
-            Some(best)
-        } else {
-            None
+        Journal {
+            shape: Shape {
+                blocks,
+                pages,
+                total: blocks * pages,
+            },
+            asks: 16 * blocks + 65536,
+            head: None,
+            block: 0,
+            count: 0,
+            first: 0,
+            number: 0,
+            highest: 0,
+            bad: 0,
+            tail: 0,
+            tail_block: 0,
+            last_tail: 0,
+            before_tail: 0,
+            last_seal: false,
+            last_copied: false,
+            oldest: 0,
+            owed: false,
+            rising: true,
+            looked: 0,
+            stuck: false,
+            blind: true,
         }
     }
 
@@ -167,12 +105,68 @@ impl Journal {
     pub fn next_index(&self) -> u64 {
         self.first.saturating_add(u64::from(self.count))
     }
+
+    // Whether the newest block takes more records.
+    pub fn has_room(&self) -> bool {
+        self.head.is_some()
+    }
+
+    // The newest block as a successor's header names it, if there is one.
+    pub fn predecessor(&self) -> Option<Predecessor> {
+        if self.count == 0 {
+            return None;
+        }
+        Some(Predecessor {
+            block: BlockIndex { index: self.block },
+            number: BlockNumber {
+                number: self.number,
+            },
+            records: RecordCount { count: self.count },
+        })
+    }
+
+    // Notes that a block with the highest number, and no record so far, is the newest.
+    pub fn begin_block(&mut self, block: u32)
+        requires { block < self.old.shape.blocks }
+        ensures { Alike self.old self.new }
+    {
+        if !self.rising {
+            self.before_tail = self.last_tail;
+        }
+        self.first = self.next_index();
+        self.block = block;
+        self.number = self.highest;
+        self.count = 0;
+    }
+
+    // Notes the tail that the newest record carries.
+    pub fn note_tail(&mut self, content: Content)
+        ensures { Alike self.old self.new }
+    {
+        if self.count > 1 && !self.rising && !self.last_copied {
+            self.before_tail = self.last_tail;
+        }
+        self.last_tail = self.tail;
+        self.last_seal = is_seal(content);
+        self.last_copied = is_copied(content);
+    }
 }
 
-// The record that a mark says, if it is one.
-fn as_record(mark: Mark) -> Option<RecordMark> {
-    match mark {
-        Mark::Record(record) => Some(record),
-        _ => None,
-    }
+// Whether a record is a seal.
+pub fn is_seal(content: Content) -> bool {
+    matches!(content, Content::Seal { .. })
+}
+
+// Whether a record was copied from the tail of the log.
+pub fn is_copied(content: Content) -> bool {
+    matches!(
+        content,
+        Content::Data {
+            origin: Origin::Copied,
+            ..
+        } | Content::Table {
+            origin: Origin::Copied,
+            ..
+        }
+    )
 }

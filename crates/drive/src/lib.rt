@@ -25,6 +25,7 @@ mod recovery;
 mod room;
 mod service;
 mod steps;
+mod store;
 mod survey;
 mod tag;
 pub mod ties;
@@ -34,7 +35,7 @@ pub use admission::admit;
 use journal::Journal;
 use queue::{Queue, keep_bytes};
 pub use refusals::{Refusal, Tags};
-use service::Served;
+use store::Store;
 
 // What a chip answers. Dark: the power has gone, and it answers so from then on.
 #[derive(Clone, Copy)]
@@ -148,7 +149,7 @@ pub fn open<C: Chip>(c: &mut C, room: &mut [u8]) -> Result<Drive, Gone>
 {
     let mut journal = Journal::unknown(c.blocks(), c.pages());
     journal.come_up(c, room)?;
-    journal.allow(room, 0);
+    journal.asks = 0;
     Ok(Drive {
         journal,
         queue: Queue::default(),
@@ -196,21 +197,15 @@ impl Drive {
         ensures kept { Kept result (C.nand c.new) self.new room.new }
         ensures turns { Turns self.old.queue result self.new.queue }
     {
-        self.journal.allow(room, 64);
-        for _ in 0..64u32 {
-            match self.serve_front(c, room, out)? {
-                Served::More => {}
-                Served::Idle => {
-                    break;
-                }
-                Served::Ended(e) => {
-                    self.journal.allow(room, 0);
-                    return Ok(Some(e));
-                }
-            }
-        }
-        self.journal.allow(room, 0);
-        Ok(None)
+        self.journal.asks = 64;
+        let mut store = Store {
+            chip: c,
+            room,
+            journal: &mut self.journal,
+        };
+        let ended = store.serve(&mut self.queue, out)?;
+        self.journal.asks = 0;
+        Ok(ended)
     }
 }
 

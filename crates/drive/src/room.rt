@@ -1,8 +1,10 @@
 // What lies where in the room: the one place that says it.
 ghost use Rattle.std.specs.Prelude.{◌≡◌, ℕ, ◌+◌, ◌*◌, ◌<◌, ◌≤◌, length, ◌==◌};
 ghost use Rattle.words.specs.Words.{value_at, Written};
-ghost use Rattle.drive.specs.Room.{Lent, block_at, place_at, standing, code_of};
+ghost use Rattle.drive.specs.Room.{block_at, place_at, standing, code_of, placed};
 
+use crate::Chip;
+use crate::store::Store;
 use words::{read, write};
 
 // Where the page buffer begins; the eight command buffers lie before it.
@@ -20,6 +22,33 @@ pub struct Shape {
     pub total: u32,
 }
 
+// Where a block stands: it may be taken, it must be kept, or its header can't be read.
+#[derive(Clone, Copy, PartialEq, Eq)]
+pub enum Standing {
+    Free = 0,
+    Kept = 1,
+    Unreadable = 2,
+}
+
+impl From<u16> for Standing {
+    ghost from_gives = { λ k s. s ≡ standing k };
+
+    fn from(code: u16) -> Self {
+        match code {
+            0 => Standing::Free,
+            1 => Standing::Kept,
+            _ => Standing::Unreadable,
+        }
+    }
+}
+
+// Where a record lies: its block, and the page in it.
+#[derive(Clone, Copy, PartialEq, Eq)]
+pub struct Address {
+    pub block: u32,
+    pub page: u32,
+}
+
 // Where a block's entry begins.
 fn entry(block: u32) -> usize
     ensures { result ≡ block_at block }
@@ -27,142 +56,146 @@ fn entry(block: u32) -> usize
     BLOCKS + 32 * block as usize
 }
 
-// The number that a block was given, 0 for none.
-pub fn number_of(room: &[u8], shape: Shape, block: u32) -> u64
-    requires { (Lent shape room.now) × (block < shape.blocks) }
-    ensures { result ≡ value_at 8 room.now (block_at block) }
-{
-    read(room, entry(block))
-}
+impl<C: Chip> Store<'_, C> {
+    ghost use Rattle.drive.specs.Stores.{Spent};
 
-// Notes a block's number.
-pub fn set_number(room: &mut [u8], shape: Shape, block: u32, number: u64)
-    requires { (Lent shape room.old) × (block < shape.blocks) }
-    ensures { Written 8 (block_at block) number room.old room.new }
-{
-    write(room, entry(block), number);
-}
-
-// The index of a block's first record.
-pub fn first_of(room: &[u8], shape: Shape, block: u32) -> u64
-    requires { (Lent shape room.now) × (block < shape.blocks) }
-    ensures { result ≡ value_at 8 room.now (block_at block + 8) }
-{
-    read(room, entry(block) + 8)
-}
-
-// Notes the index of a block's first record.
-pub fn set_first(room: &mut [u8], shape: Shape, block: u32, first: u64)
-    requires { (Lent shape room.old) × (block < shape.blocks) }
-    ensures { Written 8 (block_at block + 8) first room.old room.new }
-{
-    write(room, entry(block) + 8, first);
-}
-
-// The block behind a block in the log.
-pub fn successor_of(room: &[u8], shape: Shape, block: u32) -> u32
-    requires { (Lent shape room.now) × (block < shape.blocks) }
-    ensures { result ≡ value_at 4 room.now (block_at block + 16) }
-{
-    read(room, entry(block) + 16)
-}
-
-// Notes the block behind a block in the log.
-pub fn set_successor(room: &mut [u8], shape: Shape, block: u32, successor: u32)
-    requires { (Lent shape room.old) × (block < shape.blocks) }
-    ensures { Written 4 (block_at block + 16) successor room.old room.new }
-{
-    write(room, entry(block) + 16, successor);
-}
-
-// How many records of a block count.
-pub fn records_of(room: &[u8], shape: Shape, block: u32) -> u16
-    requires { (Lent shape room.now) × (block < shape.blocks) }
-    ensures { result ≡ value_at 2 room.now (block_at block + 20) }
-{
-    read(room, entry(block) + 20)
-}
-
-// Notes how many records of a block count.
-pub fn set_records(room: &mut [u8], shape: Shape, block: u32, records: u16)
-    requires { (Lent shape room.old) × (block < shape.blocks) }
-    ensures { Written 2 (block_at block + 20) records room.old room.new }
-{
-    write(room, entry(block) + 20, records);
-}
-
-// Where a block stands: it may be taken, it must be kept, or its header can't be read.
-#[derive(Clone, Copy)]
-pub enum Standing {
-    Free = 0,
-    Kept = 1,
-    Unreadable = 2,
-}
-
-// Where a block stands.
-pub fn standing_of(room: &[u8], shape: Shape, block: u32) -> Standing
-    requires { (Lent shape room.now) × (block < shape.blocks) }
-    ensures { result ≡ standing (value_at 2 room.now (block_at block + 22)) }
-{
-    match read::<u16, _>(room, entry(block) + 22) {
-        0 => Standing::Free,
-        1 => Standing::Kept,
-        _ => Standing::Unreadable,
+    // The number that a block was given, 0 for none.
+    pub fn number_of(&self, block: u32) -> u64
+        requires { block < self.now.journal.now.shape.blocks }
+        ensures { result ≡ value_at 8 self.now.room.now (block_at block) }
+    {
+        read(self.room, entry(block))
     }
-}
 
-// Notes where a block stands.
-pub fn set_standing(room: &mut [u8], shape: Shape, block: u32, standing: Standing)
-    requires { (Lent shape room.old) × (block < shape.blocks) }
-    ensures { Written 2 (block_at block + 22) (code_of standing) room.old room.new }
-{
-    write(room, entry(block) + 22, standing as u16);
-}
+    // Notes a block's number.
+    pub fn set_number(&mut self, block: u32, number: u64)
+        requires { block < self.old.journal.now.shape.blocks }
+        ensures written { Written 8 (block_at block) number self.old.room.now self.new.room.now }
+        ensures spent { Spent 0 self.old self.new }
+    {
+        write(self.room, entry(block), number);
+    }
 
-// Whether a block may be taken.
-pub fn is_free(room: &[u8], shape: Shape, block: u32) -> bool
-    requires { (Lent shape room.now) × (block < shape.blocks) }
-    ensures { result ≡ (value_at 2 room.now (block_at block + 22) == 0) }
-{
-    read::<u16, _>(room, entry(block) + 22) == 0
-}
+    // The index of a block's first record.
+    pub fn first_of(&self, block: u32) -> u64
+        requires { block < self.now.journal.now.shape.blocks }
+        ensures { result ≡ value_at 8 self.now.room.now (block_at block + 8) }
+    {
+        read(self.room, entry(block) + 8)
+    }
 
-// The place of a sector: the address of its page plus one, 0 for none.
-pub fn place_of(room: &[u8], shape: Shape, sector: u32) -> u32
-    requires { (Lent shape room.now) × (sector < shape.total) }
-    ensures { result ≡ value_at 4 room.now (place_at shape.blocks sector) }
-{
-    read(
-        room,
-        BLOCKS + 32 * shape.blocks as usize + 4 * sector as usize,
-    )
-}
+    // Notes the index of a block's first record.
+    pub fn set_first(&mut self, block: u32, first: u64)
+        requires { block < self.old.journal.now.shape.blocks }
+        ensures written { Written 8 (block_at block + 8) first self.old.room.now self.new.room.now }
+        ensures spent { Spent 0 self.old self.new }
+    {
+        write(self.room, entry(block) + 8, first);
+    }
 
-// Notes the place of a sector.
-pub fn set_place(room: &mut [u8], shape: Shape, sector: u32, place: u32)
-    requires { (Lent shape room.old) × (sector < shape.total) }
-    ensures { Written 4 (place_at shape.blocks sector) place room.old room.new }
-{
-    write(
-        room,
-        BLOCKS + 32 * shape.blocks as usize + 4 * sector as usize,
-        place,
-    );
-}
+    // The block behind a block in the log.
+    pub fn successor_of(&self, block: u32) -> u32
+        requires { block < self.now.journal.now.shape.blocks }
+        ensures { result ≡ value_at 4 self.now.room.now (block_at block + 16) }
+    {
+        read(self.room, entry(block) + 16)
+    }
 
-// Copies the data of the page that was read to the list of records.
-pub fn keep_list(room: &mut [u8])
-    requires { 1048576 ≤ length room.old }
-{
-    let (front, back) = room.split_at_mut(LIST);
-    back[0..4096].copy_from_slice(&front[PAGE..PAGE + 4096]);
-}
+    // Notes the block behind a block in the log.
+    pub fn set_successor(&mut self, block: u32, successor: u32)
+        requires { block < self.old.journal.now.shape.blocks }
+        ensures written { Written 4 (block_at block + 16) successor self.old.room.now self.new.room.now }
+        ensures spent { Spent 0 self.old self.new }
+    {
+        write(self.room, entry(block) + 16, successor);
+    }
 
-// No sector has a place.
-pub fn clear_places(room: &mut [u8], shape: Shape)
-    requires { Lent shape room.old }
-{
-    for sector in 0..shape.total {
-        set_place(room, shape, sector, 0);
+    // How many records of a block count.
+    pub fn records_of(&self, block: u32) -> u16
+        requires { block < self.now.journal.now.shape.blocks }
+        ensures { result ≡ value_at 2 self.now.room.now (block_at block + 20) }
+    {
+        read(self.room, entry(block) + 20)
+    }
+
+    // Notes how many records of a block count.
+    pub fn set_records(&mut self, block: u32, records: u16)
+        requires { block < self.old.journal.now.shape.blocks }
+        ensures written { Written 2 (block_at block + 20) records self.old.room.now self.new.room.now }
+        ensures spent { Spent 0 self.old self.new }
+    {
+        write(self.room, entry(block) + 20, records);
+    }
+
+    // Where a block stands.
+    pub fn standing_of(&self, block: u32) -> Standing
+        requires { block < self.now.journal.now.shape.blocks }
+        ensures { result ≡ standing (value_at 2 self.now.room.now (block_at block + 22)) }
+    {
+        Standing::from(read::<u16, 2>(self.room, entry(block) + 22))
+    }
+
+    // Notes where a block stands.
+    pub fn set_standing(&mut self, block: u32, standing: Standing)
+        requires { block < self.old.journal.now.shape.blocks }
+        ensures written { Written 2 (block_at block + 22) (code_of standing) self.old.room.now self.new.room.now }
+        ensures spent { Spent 0 self.old self.new }
+    {
+        write(self.room, entry(block) + 22, standing as u16);
+    }
+
+    // Whether a block may be taken.
+    pub fn is_free(&self, block: u32) -> bool
+        requires { block < self.now.journal.now.shape.blocks }
+        ensures { result ≡ (value_at 2 self.now.room.now (block_at block + 22) == 0) }
+    {
+        self.standing_of(block) == Standing::Free
+    }
+
+    // Where the place of a sector lies.
+    fn place(&self, sector: u32) -> usize
+        ensures { result ≡ place_at self.now.journal.now.shape.blocks sector }
+    {
+        BLOCKS + 32 * self.journal.shape.blocks as usize + 4 * sector as usize
+    }
+
+    // The place of a sector, if it has one. The room has it as the address of the page plus one, 0 for none.
+    pub fn place_of(&self, sector: u32) -> Option<Address>
+        requires { sector < self.now.journal.now.shape.total }
+        ensures { result ≡ placed (value_at 4 self.now.room.now (place_at self.now.journal.now.shape.blocks sector)) }
+    {
+        let address = read::<u32, 4>(self.room, self.place(sector)).checked_sub(1)?;
+        Some(Address {
+            block: address / 256,
+            page: address % 256,
+        })
+    }
+
+    // Notes the place of a sector.
+    pub fn set_place(&mut self, sector: u32, place: Address)
+        requires within { sector < self.old.journal.now.shape.total }
+        requires small { (place.block < 65536) × (place.page < 256) }
+        ensures written { Written 4 (place_at self.old.journal.now.shape.blocks sector) (256 * place.block + place.page + 1) self.old.room.now self.new.room.now }
+        ensures spent { Spent 0 self.old self.new }
+    {
+        let at = self.place(sector);
+        write(self.room, at, 256 * place.block + place.page + 1);
+    }
+
+    // No sector has a place.
+    pub fn clear_places(&mut self)
+        ensures { Spent 0 self.old self.new }
+    {
+        let begin = self.place(0);
+        let end = self.place(self.journal.shape.total);
+        self.room[begin..end].fill(0);
+    }
+
+    // Copies the data of a page from one place to another.
+    pub fn copy_data(&mut self, from: usize, to: usize)
+        requires { (from ≤ 266496) × (to ≤ 266496) }
+        ensures { Spent 0 self.old self.new }
+    {
+        self.room.copy_within(from..from + 4096, to);
     }
 }

@@ -1,56 +1,29 @@
 // Between the commands and the log.
-ghost use Rattle.std.specs.Prelude.{◌≡◌, ℕ, ◌+◌, ◌*◌, ◌<◌, ◌≤◌, length};
+ghost use Rattle.std.specs.Prelude.{◌≡◌, false, length, is_ok, IfOk};
 ghost use Rattle.drive.specs.Nand.{Nand};
-ghost use Rattle.drive.specs.Journals.{Ready, Rose, Unknown};
-ghost use Rattle.drive.specs.Service.{Serves};
+ghost use Rattle.drive.specs.Journals.{Ready};
+ghost use Rattle.drive.specs.Service.{Serves, Turns};
 
 use crate::journal::Journal;
-use crate::room::Shape;
+use crate::queue::Queue;
 use crate::steps::Progress;
-use crate::{Chip, Drive, Ended, Gone};
+use crate::store::Store;
+use crate::{Chip, Ended, Gone};
 
 impl Journal {
-    // Before anything is known of a chip.
-    pub fn unknown(blocks: u32, pages: u32) -> Self
-        requires { (blocks ≤ 65536) × (pages ≤ 256) }
-        ensures { Unknown blocks pages result }
-    {
-        Journal {
-            shape: Shape {
-                blocks,
-                pages,
-                total: blocks * pages,
-            },
-            asks: 16 * blocks + 65536,
-            head: None,
-            block: 0,
-            count: 0,
-            first: 0,
-            number: 0,
-            highest: 0,
-            bad: 0,
-            tail: 0,
-            tail_block: 0,
-            last_tail: 0,
-            before_tail: 0,
-            last_seal: false,
-            last_copied: false,
-            oldest: 0,
-            owed: false,
-            rising: true,
-            looked: 0,
-            stuck: false,
-            blind: true,
-        }
-    }
-
-    // Comes up, or notes that it can't.
+    // Comes up on a chip, or notes that it can't.
     pub fn come_up<C: Chip>(&mut self, c: &mut C, room: &mut [u8]) -> Result<(), Gone>
-        requires ready { Ready (C.nand c.old) self.old room.old }
-        ensures { Rose result self.old (C.nand c.new) self.new room.new }
+        requires { Ready (C.nand c.old) self.old room.old }
+        ensures ready { IfOk result (λ _. Ready (C.nand c.new) self.new room.new) }
+        ensures off { is_ok result ≡ false → (C.nand c.new).on ≡ false }
     {
-        if !self.rise(c, room)? {
-            self.give_up(room);
+        let mut store = Store {
+            chip: c,
+            room,
+            journal: self,
+        };
+        if !store.rise()? {
+            store.journal.stuck = true;
         }
         Ok(())
     }
@@ -63,38 +36,34 @@ pub enum Served {
     Ended(Ended),
 }
 
-impl Drive {
+impl<C: Chip> Store<'_, C> {
+    ghost use Rattle.drive.specs.Stores.{Rose};
+
     // One step for the command that came first.
-    pub fn serve_front<C: Chip>(
-        &mut self,
-        c: &mut C,
-        room: &mut [u8],
-        out: &mut [u8],
-    ) -> Result<Served, Gone>
-        requires ready { Ready (C.nand c.old) self.old.journal room.old }
-        requires lent { length out.old ≡ 32768 }
-        ensures rose { Rose result self.old.journal (C.nand c.new) self.new.journal room.new }
-        ensures serves { Serves self.old.queue result self.new.queue }
+    fn serve_front(&mut self, queue: &mut Queue, out: &mut [u8]) -> Result<Served, Gone>
+        requires { length out.old ≡ 32768 }
+        ensures rose { Rose result self.old self.new }
+        ensures serves { Serves queue.old result queue.new }
     {
         if self.journal.asks < 8 {
             return Ok(Served::Idle);
         }
-        let Some(tag) = self.queue.front() else {
+        let Some(tag) = queue.front() else {
             return Ok(Served::Idle);
         };
-        let Some(pending) = self.queue.slot(tag.number) else {
+        let Some(pending) = queue.slot(tag.number) else {
             return Ok(Served::Idle);
         };
-        match self.journal.step(c, room, out, tag.number, pending)? {
+        match self.step(out, tag.number, pending)? {
             Progress::Ended => {
-                self.queue.end(tag);
+                queue.end(tag);
                 Ok(Served::Ended(Ended {
                     tag: tag.number,
                     ask: pending.ask,
                 }))
             }
             Progress::Taken => {
-                self.queue.advance(tag, pending);
+                queue.advance(tag, pending);
                 Ok(Served::More)
             }
             Progress::Waiting => Ok(if self.journal.stuck {
@@ -103,5 +72,25 @@ impl Drive {
                 Served::More
             }),
         }
+    }
+
+    // At most 64 steps, until a command has ended or nothing can be done now.
+    pub fn serve(&mut self, queue: &mut Queue, out: &mut [u8]) -> Result<Option<Ended>, Gone>
+        requires { length out.old ≡ 32768 }
+        ensures rose { Rose result self.old self.new }
+        ensures turns { Turns queue.old result queue.new }
+    {
+        for _ in 0..64u32 {
+            match self.serve_front(queue, out)? {
+                Served::More => {}
+                Served::Idle => {
+                    break;
+                }
+                Served::Ended(e) => {
+                    return Ok(Some(e));
+                }
+            }
+        }
+        Ok(None)
     }
 }

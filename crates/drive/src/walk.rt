@@ -1,207 +1,141 @@
 // Coming up, second part: back over the log, newest first, to where each sector is.
-ghost use Rattle.std.specs.Prelude.{◌≡◌, ℕ, ◌+◌, ◌*◌, ◌<◌, ◌≤◌, length};
-ghost use Rattle.drive.specs.Nand.{Nand};
-ghost use Rattle.drive.specs.Journals.{Ready, Went, Rose, Sound, Noted, Stands, Stays};
+ghost use Rattle.std.specs.Prelude.{◌≡◌, ℕ, ◌<◌, ◌≤◌};
 
-use crate::journal::Journal;
-use crate::room::{
-    PAGE, Standing, number_of, place_of, set_first, set_place, set_records, set_standing,
-    set_successor,
-};
+use crate::room::{Address, PAGE, Standing};
+use crate::store::Store;
 use crate::{Chip, Gone};
 use record::entries::{read_entry, read_header};
 use record::headers::{HeaderData, Predecessor};
 use record::marks::Content;
+use record::numbers::RecordCount;
 
 // A block of the log, by what its successor's header says: where its records begin, how many count, and which block comes behind.
 #[derive(Clone, Copy)]
 pub struct Stretch {
     pub block: u32,
     pub first: u64,
-    pub records: u32,
+    pub records: RecordCount,
     pub above: u32,
 }
 
-// The header data of the page in the room.
-fn header_in(room: &[u8]) -> Option<HeaderData>
-    requires { 1048576 ≤ length room.now }
-{
-    read_header(&room[PAGE..PAGE + 4096]).ok()
-}
+impl<C: Chip> Store<'_, C> {
+    ghost use Rattle.drive.specs.Stores.{Spent};
 
-// An entry of the header in the room, for a record of its predecessor.
-fn entry_in(room: &[u8], i: u32) -> Option<Content>
-    requires { (1048576 ≤ length room.now) × (i < 256) }
-{
-    read_entry(&room[PAGE..PAGE + 4096], i as usize).ok()
-}
-
-impl Journal {
     // Notes the place of a record's sector, unless a newer one is known.
-    fn place_entry(&self, room: &mut [u8], content: Content, place: u32)
-        requires { Sound self.now room.old }
+    fn place_entry(&mut self, content: Content, place: Address)
+        requires { (place.block < 65536) × (place.page < 256) }
+        ensures { Spent 0 self.old self.new }
     {
-        if let Content::Data { origin: _, sector } = content {
-            if sector.number < self.shape.total && place_of(room, self.shape, sector.number) == 0 {
-                set_place(room, self.shape, sector.number, place);
+        if let Content::Data { sector, .. } = content {
+            let sector = sector.number;
+            if sector < self.journal.shape.total && self.place_of(sector).is_none() {
+                self.set_place(sector, place);
             }
         }
     }
 
     // Notes the places of a block's records, newest first, as the header in the room has them.
-    fn place_entries(&self, room: &mut [u8], stretch: Stretch)
-        requires sound { Sound self.now room.old }
-        requires within { (stretch.block < self.now.shape.blocks) × (stretch.records < 256) }
+    fn place_entries(&mut self, stretch: Stretch)
+        requires { stretch.block < self.old.journal.now.shape.blocks }
+        ensures { Spent 0 self.old self.new }
     {
-        for back in 0..stretch.records {
-            let i = stretch.records - 1 - back;
-            let place = 256 * stretch.block + i + 2;
-            if stretch.first.saturating_add(u64::from(i)) >= self.tail {
-                if let Some(content) = entry_in(room, i) {
-                    self.place_entry(room, content, place);
-                }
+        for i in (0..stretch.records.count).rev() {
+            if stretch.first.saturating_add(u64::from(i)) < self.journal.tail {
+                break;
+            }
+            let place = Address {
+                block: stretch.block,
+                page: i + 1,
+            };
+            if let Ok(content) = read_entry(&self.room[PAGE..PAGE + 4096], i as usize) {
+                self.place_entry(content, place);
             }
         }
     }
 
     // Notes that a block is in the log.
-    fn note_stretch(&mut self, room: &mut [u8], stretch: Stretch)
-        requires sound { Sound self.old room.old }
-        requires within { (stretch.block < self.old.shape.blocks) × (stretch.records < 256) }
-        ensures { Noted self.old self.new room.new }
+    fn note_stretch(&mut self, stretch: Stretch)
+        requires { stretch.block < self.old.journal.now.shape.blocks }
+        ensures { Spent 0 self.old self.new }
     {
-        self.place_entries(room, stretch);
-        set_first(room, self.shape, stretch.block, stretch.first);
-        set_records(room, self.shape, stretch.block, stretch.records as u16);
-        set_successor(room, self.shape, stretch.block, stretch.above);
-        set_standing(room, self.shape, stretch.block, Standing::Kept);
-        self.oldest = stretch.block;
-        if stretch.first <= self.tail
-            && self.tail < stretch.first.saturating_add(u64::from(stretch.records))
-        {
-            self.tail_block = stretch.block;
+        let Stretch {
+            block,
+            first,
+            records: RecordCount { count },
+            above,
+        } = stretch;
+        self.place_entries(stretch);
+        self.set_first(block, first);
+        self.set_records(block, count as u16);
+        self.set_successor(block, above);
+        self.set_standing(block, Standing::Kept);
+        self.journal.oldest = block;
+        let tail = self.journal.tail;
+        if first <= tail && tail < first.saturating_add(u64::from(count)) {
+            self.journal.tail_block = block;
         }
-    }
-
-    // The same, where a chip is at hand.
-    fn commit_stretch(&mut self, room: &mut [u8], stretch: Stretch)
-        requires stands { Stands self.old room.old }
-        requires within { (stretch.block < self.old.shape.blocks) × (stretch.records < 256) }
-        ensures { Stays self.old room.old self.new room.new }
-    {
-        self.note_stretch(room, stretch);
     }
 }
 
-impl Journal {
-    // The header data of the page that was read, mended.
-    fn header_read(&self, room: &mut [u8]) -> Option<HeaderData>
-        requires { Stands self.now room.old }
-        ensures { Stays self.now room.old self.now room.new }
-    {
-        self.mend_page(room);
-        self.header_of(room)
-    }
-
-    // The header data of the page in the room.
-    fn header_of(&self, room: &[u8]) -> Option<HeaderData>
-        requires { Stands self.now room.now }
-    {
-        header_in(room)
-    }
-
-    // The number that a block showed.
-    fn number_shown(&self, room: &[u8], block: u32) -> u64
-        requires stands { Stands self.now room.now }
-        requires within { block < self.now.shape.blocks }
-    {
-        self.number_noted(room, block)
-    }
-
-    fn number_noted(&self, room: &[u8], block: u32) -> u64
-        requires sound { Sound self.now room.now }
-        requires within { block < self.now.shape.blocks }
-    {
-        number_of(room, self.shape, block)
-    }
+impl<C: Chip> Store<'_, C> {
+    ghost use Rattle.drive.specs.Stores.{Went, Rose};
 
     // Reads a block's header data into the room.
-    pub fn read_header_of<C: Chip>(
-        &mut self,
-        c: &mut C,
-        room: &mut [u8],
-        block: u32,
-    ) -> Result<Option<HeaderData>, Gone>
-        requires ready { Ready (C.nand c.old) self.old room.old }
-        requires soon { 1 ≤ self.old.asks }
-        ensures { Went 1 result self.old (C.nand c.new) self.new room.new }
+    pub fn read_header_of(&mut self, block: u32) -> Result<Option<HeaderData>, Gone>
+        requires { 1 ≤ self.old.journal.now.asks }
+        ensures { Went 1 result self.old self.new }
     {
-        if block >= self.shape.blocks || self.shape.pages == 0 {
+        if self.show(block, 0)?.is_none() {
             return Ok(None);
         }
-        if self.show(c, room, block, 0)?.is_none() {
-            return Ok(None);
-        }
-        Ok(self.header_read(room))
+        self.mend_page();
+        Ok(read_header(&self.room[PAGE..PAGE + 4096]).ok())
     }
 
     // Notes a block that a header in the room names, if it still has that number, and reads its own header.
-    fn walk_block<C: Chip>(
+    fn walk_block(
         &mut self,
-        c: &mut C,
-        room: &mut [u8],
         named: Predecessor,
         stretch: Stretch,
     ) -> Result<Option<HeaderData>, Gone>
-        requires ready { Ready (C.nand c.old) self.old room.old }
-        requires soon { 1 ≤ self.old.asks }
-        ensures { Went 1 result self.old (C.nand c.new) self.new room.new }
+        requires { 1 ≤ self.old.journal.now.asks }
+        ensures { Went 1 result self.old self.new }
     {
-        if stretch.block >= self.shape.blocks || stretch.records > 255 {
+        let block = stretch.block;
+        if block >= self.journal.shape.blocks || self.number_of(block) != named.number.number {
             return Ok(None);
         }
-        if self.number_shown(room, stretch.block) != named.number.number {
-            return Ok(None);
-        }
-        self.commit_stretch(room, stretch);
-        let header = self.read_header_of(c, room, stretch.block)?;
-        Ok(header)
+        self.note_stretch(stretch);
+        self.read_header_of(block)
     }
 
     // Walks back from a block, whose header data stand in the room, to the tail and on to what must be kept. False if the log is broken off.
-    pub fn walk<C: Chip>(
-        &mut self,
-        c: &mut C,
-        room: &mut [u8],
-        block: u32,
-        header: HeaderData,
-    ) -> Result<bool, Gone>
-        requires ready { Ready (C.nand c.old) self.old room.old }
-        ensures { Rose result self.old (C.nand c.new) self.new room.new }
+    pub fn walk(&mut self, block: u32, header: HeaderData) -> Result<bool, Gone>
+        ensures { Rose result self.old self.new }
     {
         let keep = header.keep.index;
         let mut above = block;
         let mut header = header;
-        for _ in 0..self.shape.blocks {
+        for _ in 0..self.journal.shape.blocks {
             let first = header.first.index;
-            let needed = first > self.tail;
+            let needed = first > self.journal.tail;
             if !needed && first <= keep {
                 break;
             }
             let Some(named) = header.predecessor else {
                 return Ok(!needed);
             };
-            if self.asks < 1 {
+            if self.journal.asks < 1 {
                 return Ok(false);
             }
-            let records = named.records.count;
+            let records = named.records;
             let stretch = Stretch {
                 block: named.block.index,
-                first: first.saturating_sub(u64::from(records)),
+                first: first.saturating_sub(u64::from(records.count)),
                 records,
                 above,
             };
-            let Some(next) = self.walk_block(c, room, named, stretch)? else {
+            let Some(next) = self.walk_block(named, stretch)? else {
                 return Ok(!needed);
             };
             above = stretch.block;

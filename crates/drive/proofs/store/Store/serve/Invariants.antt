@@ -1,0 +1,6 @@
+use Rattle.drive.specs.Service.{SameAsks}
+use Rattle.drive.specs.Stores.{Same}
+use Rattle.drive.proofs.store.Store.serve.Given as goal
+
+abbrev pub invariant-loop : goal.invariant-loop
+invariant-loop g l = Same l.initial.self l.self × SameAsks l.initial.queue l.queue
