@@ -1,6 +1,6 @@
 -- What a method of the store keeps, and what it spends.
 -- Assumes nothing.
-use Rattle.std.specs.Prelude.{◌≡◌, ℕ, ◌+◌, ◌<◌, ◌≤◌, false, is_ok, Ok, Err, Some, None, Option, Result}
+use Rattle.std.specs.Prelude.{◌≡◌, ℕ, ◌+◌, ◌≤◌, false, is_ok, Result}
 use Rattle.drive.specs.declared.Chip.{Ghosts}
 use Rattle.drive.specs.declared.Gone.{Gone}
 use Rattle.drive.specs.declared.store.Store.{Store}
@@ -12,13 +12,14 @@ pub record Same {C : Type 0} {c : Ghosts C} (s t : Store C c) : Type 0 where
   pub journal : t.journal.ghost_name ≡ s.journal.ghost_name
   pub shape : t.journal.now.shape ≡ s.journal.now.shape
 
--- the same, and the chip was asked at most so often
+-- the same, and at most so many asks were spent
 pub record Spent {C : Type 0} {c : Ghosts C} (k : ℕ) (s t : Store C c) : Type 0 where
   pub chip : t.chip.ghost_name ≡ s.chip.ghost_name
   pub room : t.room.ghost_name ≡ s.room.ghost_name
   pub journal : t.journal.ghost_name ≡ s.journal.ghost_name
   pub shape : t.journal.now.shape ≡ s.journal.now.shape
-  pub asks : s.journal.now.asks ≤ t.journal.now.asks + k
+  pub most : s.journal.now.asks ≤ t.journal.now.asks + k
+  pub least : t.journal.now.asks ≤ s.journal.now.asks
 
 -- after at most k asks; where that failed, the power has gone
 abbrev pub Went : {C : Type 0} {c : Ghosts C} {A : Type 0} → ℕ → Result A Gone → Store C c → Store C c → Type 0
@@ -27,9 +28,3 @@ Went {c = c} k r s t = Spent k s t × (is_ok r ≡ false → (c.nand t.chip.now)
 -- after any number of asks that were allowed; where that failed, the power has gone
 abbrev pub Rose : {C : Type 0} {c : Ghosts C} {A : Type 0} → Result A Gone → Store C c → Store C c → Type 0
 Rose {c = c} r s t = Same s t × (is_ok r ≡ false → (c.nand t.chip.now).on ≡ false)
-
--- a block that was taken is one of the chip's
-abbrev pub Inside : {C : Type 0} {c : Ghosts C} → Result (Option ℕ) Gone → Store C c → Type 0
-Inside (Ok None) t = Unit {0}
-Inside (Ok (Some b)) t = b < t.journal.now.shape.blocks
-Inside (Err e) t = Unit {0}

@@ -33,7 +33,7 @@ impl<C: Chip> Store<'_, C> {
         requires { 3 ≤ self.old.journal.now.asks }
         ensures { Went 3 result self.old self.new }
     {
-        if !self.journal.has_room() {
+        if !self.journal.has_head() {
             return self.append_behind(content, commit);
         }
         self.make_record(content);

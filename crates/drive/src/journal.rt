@@ -107,7 +107,7 @@ impl Journal {
     }
 
     // Whether the newest block takes more records.
-    pub fn has_room(&self) -> bool {
+    pub fn has_head(&self) -> bool {
         self.head.is_some()
     }
 
@@ -125,11 +125,12 @@ impl Journal {
         })
     }
 
-    // Notes that a block with the highest number, and no record so far, is the newest.
+    // Notes that a block with the highest number is the newest, with no record so far.
     pub fn begin_block(&mut self, block: u32)
         requires { block < self.old.shape.blocks }
         ensures { Alike self.old self.new }
     {
+        self.link_tail(block);
         if !self.rising {
             self.before_tail = self.last_tail;
         }
@@ -137,6 +138,16 @@ impl Journal {
         self.block = block;
         self.number = self.highest;
         self.count = 0;
+    }
+
+    // Notes that the tail lies in a block behind the newest one, if it does.
+    fn link_tail(&mut self, block: u32)
+        requires { block < self.old.shape.blocks }
+        ensures { Alike self.old self.new }
+    {
+        if self.rising && self.tail >= self.next_index() {
+            self.tail_block = block;
+        }
     }
 
     // Notes the tail that the newest record carries.

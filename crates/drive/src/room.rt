@@ -56,6 +56,7 @@ fn entry(block: u32) -> usize
     BLOCKS + 32 * block as usize
 }
 
+// An accessor for each field, as the format has them. Each asks for a block of the chip, as a slice does for an index: a type can't tie a number to a geometry.
 impl<C: Chip> Store<'_, C> {
     ghost use Rattle.drive.specs.Stores.{Spent};
 

@@ -11,7 +11,7 @@ use crate::store::Store;
 use crate::{Chip, Ended, Gone};
 
 impl Journal {
-    // Comes up on a chip, or notes that it can't.
+    // Comes up on a chip, or notes that it can't. Not in `open` itself: the check doesn't cover calls of a struct that refers to a local variable.
     pub fn come_up<C: Chip>(&mut self, c: &mut C, room: &mut [u8]) -> Result<(), Gone>
         requires { Ready (C.nand c.old) self.old room.old }
         ensures ready { IfOk result (λ _. Ready (C.nand c.new) self.new room.new) }

@@ -1,4 +1,4 @@
-// A journal at work, and the asks that it makes.
+// The chip, the room and the journal together, and single asks.
 ghost use Rattle.std.specs.Prelude.{◌≡◌, ℕ, ◌+◌, ◌<◌, ◌≤◌, true, IfSome};
 ghost use Rattle.std.proofs.Props.{props};
 ghost use Rattle.drive.specs.Nand.{Nand};

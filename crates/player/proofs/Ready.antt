@@ -1,18 +1,22 @@
 -- A drive stays ready while it isn't asked for a turn. Assumes nothing.
-use Rattle.std.proofs.Common.{◌≡◌, ℕ, List, length, sym, ap, subst}
+use Rattle.std.proofs.Common.{◌≡◌, ℕ, List, length, refl, sym, ap, subst, arith}
 use Rattle.drive.specs.Nand.{Nand, allowed}
 use Rattle.drive.specs.Journals.{Ready}
 use Rattle.drive.specs.Service.{Standing}
 use Rattle.drive.specs.declared.Drive.{Drive}
 use Rattle.drive.specs.declared.journal.Journal.{Journal}
-use Rattle.drive.proofs.Readiness.{ready_same, stays_room}
+use Rattle.drive.proofs.Readiness.{ready_same, ready_room}
 
 -- more may be asked of the chip
 pub standing-allowed : (n m : Nand) (k : ℕ) (d : Drive) (room : List ℕ) → m ≡ allowed k n → Standing n d room → Standing m d room
 standing-allowed n m k d room e s =
-    (ready_same n m d.journal room (ap (λ (x : Nand). x.blocks) e) (ap (λ (x : Nand). x.pages) e) (ap (λ (x : Nand). x.block) e) s.1 s.0, s.1)
+    (
+      ready_same n m d.journal d.journal room room (ap (λ (x : Nand). x.blocks) e) (ap (λ (x : Nand). x.pages) e) (ap (λ (x : Nand). x.block) e)
+      (omega (arith, s.1)) refl refl refl s.0,
+      s.1,
+    )
 
 -- a command was asked: the journal is the same, and the room as long
 pub standing_asked : (n : Nand) (d e : Drive) (room room' : List ℕ) → e.journal ≡ d.journal → length room' ≡ length room → Standing n d room → Standing n e room'
 standing_asked n d e room room' j len s =
-    subst (λ (x : Journal). Ready n x room' × (x.asks ≡ 0)) (sym j) ((stays_room d.journal room room' len).0 n s.0, s.1)
+    subst (λ (x : Journal). Ready n x room' × (x.asks ≡ 0)) (sym j) (ready_room n d.journal room room' len s.0, s.1)
