@@ -46,7 +46,8 @@ pub struct Tricks {
 impl Tricks {
     // At the start of the first life.
     pub fn new(mode: Mode) -> Tricks
-        ensures { (result.mode ≡ mode) × ((result.life ≡ 0) × (result.asks_before_cut ≡ None)) }
+        ensures start { (result.mode ≡ mode) × ((result.life ≡ 0) × (result.asks_before_cut ≡ None)) }
+        ensures counted { (result.counts.reads.made ≡ 0) × ((result.counts.programs.made ≡ 0) × (result.counts.erasings.made ≡ 0)) }
     {
         Tricks {
             mode,
