@@ -1,5 +1,5 @@
 -- One bit that turned over is found and turned back. Assumes nothing.
-use Rattle.std.proofs.Common.{◌≡◌, ℕ, zero, suc, ◌+◌, ◌*◌, ◌/◌, ◌%◌, ◌^◌, ◌<◌, ◌≤◌, true, T, ltb, ◌⊎◌, List, [], ◌∷◌, ◌++◌, length, get_or, take, set, sym, refl, ap, ◌∙◌, ap₂, inl, inr, ⊎_elim, add-zero, pow-suc, mul-zero, mul-one, arith, ltb→lt, lt→ltb, length-take}
+use Rattle.std.proofs.Common.{◌≡◌, ℕ, zero, suc, ◌+◌, ◌*◌, ◌/◌, ◌%◌, ◌^◌, ◌<◌, ◌≤◌, T, ltb, ◌⊎◌, List, [], ◌∷◌, ◌++◌, length, get_or, take, set, sym, refl, ap, ◌∙◌, ap₂, inl, inr, ⊎_elim, add-zero, pow-suc, mul-zero, mul-one, arith, ltb→lt, length-take}
 use lib.Bits.{bit_xor, xor_assoc, xor_comm, xor_self, xor_zero_r}
 use lib.Count.{ones, ones_step, ones-ones}
 use Rattle.std.proofs.lemmas.List.{set-get_or, take_more}
@@ -7,7 +7,7 @@ use Rattle.std.proofs.lemmas.Nat.{mul-le}
 use Rattle.std.proofs.lemmas.Bool.{cases_lt}
 use Rattle.codec.specs.Bits.{every, all_bytes, apart_bits, apart}
 use Rattle.codec.specs.Mending.{column, places, mended, Mends}
-use Rattle.codec.proofs.Marks.{both, from_both, bit, all_append}
+use Rattle.codec.proofs.Marks.{both, bit}
 
 -- x + (x + y) = y, (p + a) + (p + b) = a + b, (a + p) + (b + p) = a + b
 pub xor_back : (x y : ℕ) → bit_xor x (bit_xor x y) ≡ y
@@ -140,7 +140,3 @@ places_more s i h =
 
 pub times_bit : (i o n : ℕ) → i < n → i * (o % 2) < n
 times_bit i o n h = omega (arith, mul-le i (o % 2) i 1 (omega arith) (omega arith))
-
-pub all_more : (s : List ℕ) (i : ℕ) → i < length s → get_or s i 0 < 256 → T (all_bytes (take i s)) → T (all_bytes (take (i + 1) s))
-unfolding every
-all_more s i h b a = rw (take_more s i 0 h) (all_append (take i s) (get_or s i 0 ∷ []) a (from_both (ltb (get_or s i 0) 256) true (lt→ltb (get_or s i 0) 256 b) tt))

@@ -129,8 +129,3 @@ sum_apart {S} {steps} p left right a b w ea eb l ha hb more end =
     let d = p.gave.0 in
     let z = d.2 w in
     omega (arith, sum_apart_from steps left right more end p.items a b 0 p.from d.0 z.0 d.1 z.1 ea eb l ha hb)
-
--- ---- a page is filled from its front
-
-pub put_done : (at k n : ℕ) (page v w : List ℕ) → at + length w ≤ length page → v ≡ w → n ≡ length w → take (at + n) (put_mid at k page v) ≡ take at page ++ w
-put_done at k n page v w h e f = take-put_mid at k page v (at + n) (omega (arith, ap length e)) (omega arith) ∙ ap (λ x. take at page ++ x) e

@@ -27,21 +27,6 @@ turned_made g f v ys m long acts =
     same_number_lists ys (turned v) (omega (arith, m.long, length-map v (λ b. 255 - b)))
     (λ k l. each_made g (λ i. 255 - get_or v i 0) f acts ys 32 0 m.each k (omega arith) (omega (arith, m.long)) ∙ sym (get_or-map (λ b. 255 - b) v k 0 0 (omega (arith, m.long))))
 
-pub put_mark_done : (a : ℕ) (v p q r s t u w : List ℕ) → length v ≡ 32
-    → take (a + length v) q ≡ take a p ++ v → take (a + 32 + length v) r ≡ take (a + 32) q ++ v → take (a + 64 + length v) s ≡ take (a + 64) r ++ v
-    → take (a + 96 + length v) t ≡ take (a + 96) s ++ turned v → take (a + 128 + length v) u ≡ take (a + 128) t ++ turned v
-    → take (a + 160 + length v) w ≡ take (a + 160) u ++ turned v
-    → take (a + 192) w ≡ take a p ++ mark v
-put_mark_done a v p q r s t u w l e1 e2 e3 e4 e5 e6 =
-    let n1 : a + 32 ≡ a + length v = omega arith in
-    let n2 : a + 64 ≡ a + 32 + length v = omega arith in
-    let n3 : a + 96 ≡ a + 64 + length v = omega arith in
-    let n4 : a + 128 ≡ a + 96 + length v = omega arith in
-    let n5 : a + 160 ≡ a + 128 + length v = omega arith in
-    let n6 : a + 192 ≡ a + 160 + length v = omega arith in
-    let all : take (a + 192) w ≡ (((((take a p ++ v) ++ v) ++ v) ++ turned v) ++ turned v) ++ turned v = cc in
-    all ∙ simp append_assoc
-
 -- ---- the checks
 
 checks-suc : (n : ℕ) (d : List ℕ) → checks (suc n) d ≡ checks n d ++ column (take 256 (drop (256 * n) d)) ∷ places 0 (take 256 (drop (256 * n) d)) ∷ []
@@ -62,8 +47,7 @@ chunk_next d piece more left i h e f l =
     let p : i < 16 = omega (arith, ap length f, length-append piece more) in
     let k : 4096 ≡ 256 * i + (4096 - 256 * i) = omega arith in
     let m : 256 * i + 256 ≡ 256 * (i + 1) = omega arith in
-    let c : left ≡ take (4096 - 256 * i) (drop (256 * i) d) = e ∙ ap (λ z. drop (256 * i) (take z d)) k ∙ drop-take (256 * i) (4096 - 256 * i) d in
-    (
+    let c : left ≡ take (4096 - 256 * i) (drop (256 * i) d) = e ∙ ap (λ z. drop (256 * i) (take z d)) k ∙ drop-take (256 * i) (4096 - 256 * i) d in (
       p,
       sym (take_at piece more 256 l) ∙ ap (take 256) (sym f ∙ c) ∙ take-take 256 (4096 - 256 * i) (drop (256 * i) d) (omega arith),
       sym (drop_at piece more 256 l) ∙ ap (drop 256) (sym f ∙ e) ∙ drop-drop 256 (256 * i) (take 4096 d) ∙ ap (λ z. drop z (take 4096 d)) m,
