@@ -1,21 +1,25 @@
 // What is printed, in lent bytes.
 #![tactic(auto)]
 
-ghost use Rattle.std.specs.Prelude.{◌≡◌, ℕ, ◌+◌, ◌≤◌, List, [], ◌∷◌, ◌++◌, length, decimal};
-ghost use Rattle.output.specs.Outputs.{Shows, Pushes, digit, hex_of, pair_line};
+ghost use Rattle.std.specs.Prelude.{◌≡◌, ℕ, ◌+◌, ◌≤◌, false, List, [], ◌∷◌, ◌++◌, length, take, decimal};
+ghost use Rattle.output.specs.Digits.{digit, hex_of, pair_line};
 
-// The bytes so far, and whether some found no room.
+// The bytes so far, and whether some found no room. They stand in lent bytes beside their number, since there is no heap.
+// There is no `fmt::Write`: of what `write!` wrote something is known only where it says `Ok`, and it never says that it will.
 #[derive(Drop)]
 pub struct Output<'a> {
-    pub bytes: &'a mut [u8],
-    pub len: usize,
+    bytes: &'a mut [u8],
+    len: usize,
     pub full: bool,
+    ghost within: { len ≤ length bytes.now },
 }
 
 impl<'a> Output<'a> {
+    ghost use Rattle.output.specs.Outputs.{Shows};
+
     // Nothing so far, to be printed into these bytes.
     pub fn new(bytes: &'a mut [u8]) -> Output<'a>
-        ensures { Shows result [] }
+        ensures { (Shows result []) × (result.full ≡ false) }
     {
         Output {
             bytes,
@@ -26,9 +30,27 @@ impl<'a> Output<'a> {
 }
 
 impl Output<'_> {
+    ghost use Rattle.output.specs.Outputs.{Shows, Pushes, Prints};
+
+    // What was printed, as much of it as there was room for.
+    pub fn printed(&self) -> &[u8]
+        ensures { (l : List ℕ) → Shows self.now l → result.now ≡ take (length self.now.bytes.now) l }
+    {
+        &self.bytes[..self.len]
+    }
+
+    // Nothing was printed, as at the start.
+    pub fn clear(&mut self)
+        ensures { (Shows self.new []) × (self.new.full ≡ false) }
+    {
+        self.len = 0;
+        self.full = false;
+    }
+
     // One byte more; nothing is written past the end.
     pub fn push(&mut self, b: u8)
-        ensures { Pushes self.old b self.new }
+        ensures pushes { Pushes self.old b self.new }
+        ensures prints { Prints self.old (b ∷ []) self.new }
     {
         if self.len < self.bytes.len() {
             self.bytes[self.len] = b;
@@ -40,7 +62,7 @@ impl Output<'_> {
 
     // Some text.
     pub fn text(&mut self, bytes: &[u8])
-        ensures { (l : List ℕ) → Shows self.old l → Shows self.new (l ++ bytes.now) }
+        ensures { Prints self.old bytes.now self.new }
     {
         for b in bytes {
             self.push(*b);
@@ -49,7 +71,7 @@ impl Output<'_> {
 
     // A number in decimal.
     pub fn number(&mut self, n: u64)
-        ensures { (l : List ℕ) → Shows self.old l → Shows self.new (l ++ decimal n) }
+        ensures { Prints self.old (decimal n) self.new }
     {
         if n < 10 {
             self.push(b'0' + n as u8);
@@ -61,7 +83,7 @@ impl Output<'_> {
 
     // A number between two texts.
     pub fn numbered(&mut self, before: &[u8], n: u64, behind: &[u8])
-        ensures { (l : List ℕ) → Shows self.old l → Shows self.new (l ++ (before.now ++ (decimal n ++ behind.now))) }
+        ensures { Prints self.old ((before.now ++ (decimal n ++ behind.now))) self.new }
     {
         self.text(before);
         self.number(n);
@@ -70,7 +92,7 @@ impl Output<'_> {
 
     // A line of a word and two numbers.
     pub fn pair(&mut self, word: &[u8], a: u64, b: u64)
-        ensures { (l : List ℕ) → Shows self.old l → Shows self.new (l ++ pair_line word.now a b) }
+        ensures { Prints self.old (pair_line word.now a b) self.new }
     {
         self.numbered(word, a, b" ");
         self.numbered(b"", b, b"\n");
@@ -78,7 +100,7 @@ impl Output<'_> {
 
     // A byte as two hexadecimal digits.
     pub fn byte(&mut self, b: u8)
-        ensures { (l : List ℕ) → Shows self.old l → Shows self.new (l ++ hex_of b) }
+        ensures { Prints self.old (hex_of b) self.new }
     {
         self.push(hex(b / 16));
         self.push(hex(b % 16));

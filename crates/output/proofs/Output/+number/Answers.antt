@@ -1,9 +1,10 @@
-use Rattle.std.proofs.Common.{arith}
-use Rattle.output.proofs.Printing.{shows_digit, shows_last}
+use Rattle.std.proofs.Common.{◌++◌, ◌/◌, decimal, arith, append_assoc}
+use Rattle.std.proofs.lemmas.Fmt.{decimal_digit, decimal_step}
 use Rattle.output.proofs.Output.+number.Goals as goal
 
 pub returns-then-n-lt10 : goal.returns-then-n-lt10
-returns-then-n-lt10 t c l s = shows_digit c.args.self.now c.push.new.self l c.args.n c.if-n-lt10.true c.push.ensures s
+returns-then-n-lt10 t c l s = rw (decimal_digit c.args.n c.if-n-lt10.true) (c.push.ensures.prints l s)
 
 pub returns : goal.returns
-returns t c l s = shows_last c.number.new.self c.push-2.new.self l c.args.n c.if-n-lt10.false (omega arith) (c.number.ensures l s) c.push-2.ensures
+returns t c l s =
+    rw (decimal_step c.args.n c.if-n-lt10.false (omega arith), ← append_assoc l (decimal (c.args.n / 10)) _) (c.push-2.ensures.prints (l ++ decimal (c.args.n / 10)) (c.number.ensures l s))
