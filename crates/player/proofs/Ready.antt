@@ -1,11 +1,16 @@
 -- A drive stays ready while it isn't asked for a turn. Assumes nothing.
-use Rattle.std.proofs.Common.{◌≡◌, ℕ, List, length, refl, sym, ap, subst, arith}
+use Rattle.std.proofs.Common.{◌≡◌, ℕ, List, length, Option, Some, refl, sym, ap, ◌∙◌, subst, arith}
 use Rattle.drive.specs.Nand.{Nand, allowed}
 use Rattle.drive.specs.Journals.{Ready}
 use Rattle.drive.specs.Service.{Standing}
 use Rattle.drive.specs.declared.Drive.{Drive}
 use Rattle.drive.specs.declared.journal.Journal.{Journal}
+use Rattle.player.specs.Drives.{Up}
 use Rattle.drive.proofs.Readiness.{ready_same, ready_room}
+
+-- a drive that was taken stands
+pub standing_taken : (n : Nand) (o p : Option Drive) (d : Drive) (room : List ℕ) → p ≡ o → p ≡ Some d → Up n o room → Standing n d room
+standing_taken n o p d room e f u = subst (λ (x : Option Drive). Up n x room) (sym e ∙ f) u
 
 -- more may be asked of the chip
 pub standing-allowed : (n m : Nand) (k : ℕ) (d : Drive) (room : List ℕ) → m ≡ allowed k n → Standing n d room → Standing m d room

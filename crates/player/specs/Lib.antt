@@ -1,2 +1,2 @@
+pub mod Drives
 pub mod Printed
-pub mod Sessions

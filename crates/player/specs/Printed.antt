@@ -3,7 +3,7 @@
 use Rattle.std.specs.Prelude.{ℕ, List, ◌++◌, codes, decimal}
 use Rattle.drive.specs.Nand.{Nand}
 use Rattle.bench.specs.Store.{least, most}
-use Rattle.output.specs.Outputs.{pair_line}
+use Rattle.output.specs.Digits.{pair_line}
 
 -- the answer to a line that is no command
 abbrev pub bad_line : ℕ → List ℕ

@@ -2,9 +2,10 @@
 #![tactic(auto)]
 
 mod play;
-mod session;
+mod player;
+mod small_chip;
 
 pub use line_buffer::LineBuffer;
 pub use output::Output;
-pub use play::{play_line, play_script, print_erased};
-pub use session::{Session, is_fit};
+pub use player::{Options, Player, is_fit};
+pub use small_chip::on_small_chip;

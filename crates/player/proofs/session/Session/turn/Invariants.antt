@@ -1,6 +1,0 @@
-use Rattle.std.proofs.Common.{◌≡◌, length}
-use Rattle.player.specs.Sessions.{Up}
-use Rattle.player.proofs.session.Session.turn.Given as goal
-
-abbrev pub invariant-loop : goal.invariant-loop
-invariant-loop g l = Up (g.C.Chip.nand l.c) l.self l.room × (length l.bytes ≡ 32768)
