@@ -1,26 +1,14 @@
 // Scripts of many lines, made as they are played.
-ghost use Rattle.std.specs.Prelude.{◌≡◌, ◌≤◌, length};
-ghost use Rattle.bench.specs.Store.{held};
-ghost use Rattle.player.specs.Sessions.{Up};
-
 use bench::MemoryChip;
 use output::Output;
-use player::{Session, play_line};
+use player::{Options, Player};
 use script::Command;
 use std::io;
 use std::io::Write;
 
-// The scripts.
-#[derive(Clone, Copy)]
-pub enum Long {
-    Cuts,
-    Failures,
-    Overwrites,
-}
-
 // How many lines told something, refused something, or said that the power went or something else.
-#[derive(Clone, Copy)]
-struct Tally {
+#[derive(Clone, Copy, Default, PartialEq)]
+pub struct Tally {
     told: u64,
     refused: u64,
     others: u64,
@@ -29,131 +17,60 @@ struct Tally {
 impl Tally {
     // Counts a line by its first letter.
     fn count(&mut self, letter: u8) {
-        match letter {
-            b't' => self.told = self.told.saturating_add(1),
-            b'r' => self.refused = self.refused.saturating_add(1),
-            _ => self.others = self.others.saturating_add(1),
-        }
+        let count = match letter {
+            b't' => &mut self.told,
+            b'r' => &mut self.refused,
+            _ => &mut self.others,
+        };
+        *count = count.saturating_add(1);
     }
 
     // Counts the lines of an output, and empties it.
     fn take(&mut self, out: &mut Output) {
-        let mut begins = true;
-        for i in 0..out.len {
-            if i < out.bytes.len() {
-                let b = out.bytes[i];
-                if begins {
-                    self.count(b);
-                }
-                begins = b == b'\n';
+        for line in out.printed().split_inclusive(|b| *b == b'\n') {
+            if let Some(letter) = line.first() {
+                self.count(*letter);
             }
         }
-        out.len = 0;
+        out.clear();
     }
 }
 
 // A command, and turns until it has ended.
-fn serve(
-    session: &mut Session,
-    chip: &mut MemoryChip,
-    room: &mut [u8],
-    bytes: &mut [u8],
-    out: &mut Output,
-    command: Command,
-)
-    requires up { Up (held chip.old.store) session.old room.old }
-    requires lent { length bytes.old ≡ 32768 }
-    ensures { Up (held chip.new.store) session.new room.new }
-{
-    play_line(session, chip, room, bytes, out, Some(command), 1);
-    play_line(
-        session,
-        chip,
-        room,
-        bytes,
-        out,
-        Some(Command::Turn { count: 2000 }),
-        2,
-    );
+fn serve(player: &mut Player<MemoryChip>, command: Command) {
+    player.play_line(Some(command), 1);
+    player.play_line(Some(Command::Turn { count: 2000 }), 2);
 }
 
 // The power goes at once, and then again at an ask of the coming-up; a read follows.
-fn cut_and_read(
-    session: &mut Session,
-    chip: &mut MemoryChip,
-    room: &mut [u8],
-    bytes: &mut [u8],
-    out: &mut Output,
-    ask: u32,
-)
-    requires up { Up (held chip.old.store) session.old room.old }
-    requires lent { length bytes.old ≡ 32768 }
-    ensures { Up (held chip.new.store) session.new room.new }
-{
-    play_line(
-        session,
-        chip,
-        room,
-        bytes,
-        out,
-        Some(Command::Cut { asks: 0 }),
-        1,
-    );
-    play_line(
-        session,
-        chip,
-        room,
-        bytes,
-        out,
-        Some(Command::Cut { asks: ask }),
-        2,
-    );
+fn cut_and_read(player: &mut Player<MemoryChip>, ask: u32) {
+    player.play_line(Some(Command::Cut { asks: 0 }), 1);
+    player.play_line(Some(Command::Cut { asks: ask }), 2);
     let read = Command::Read {
         tag: 4,
         from: 5,
         many: 1,
     };
-    serve(session, chip, room, bytes, out, read);
+    serve(player, read);
 }
 
 // A flushed write, and a cut at each of the first 40 asks of the comings-up after it.
-fn play_cuts(
-    session: &mut Session,
-    chip: &mut MemoryChip,
-    room: &mut [u8],
-    bytes: &mut [u8],
-    out: &mut Output,
-)
-    requires up { Up (held chip.old.store) session.old room.old }
-    requires lent { length bytes.old ≡ 32768 }
-    ensures { Up (held chip.new.store) session.new room.new }
-{
+pub fn play_cuts(player: &mut Player<MemoryChip>) {
     let write = Command::Write {
         tag: 3,
         from: 5,
         many: 1,
         fill: 7,
     };
-    serve(session, chip, room, bytes, out, write);
-    serve(session, chip, room, bytes, out, Command::Flush { tag: 5 });
-    for ask in 1..=40u32 {
-        cut_and_read(session, chip, room, bytes, out, ask);
+    serve(player, write);
+    serve(player, Command::Flush { tag: 5 });
+    for ask in 1..=40 {
+        cut_and_read(player, ask);
     }
 }
 
 // All sectors are written, eight at a time, each eight with another byte; and flushed.
-fn write_all(
-    session: &mut Session,
-    chip: &mut MemoryChip,
-    room: &mut [u8],
-    bytes: &mut [u8],
-    out: &mut Output,
-    first: u8,
-)
-    requires up { Up (held chip.old.store) session.old room.old }
-    requires lent { length bytes.old ≡ 32768 }
-    ensures { Up (held chip.new.store) session.new room.new }
-{
+fn write_all(player: &mut Player<MemoryChip>, first: u8) {
     for i in 0..40u8 {
         let write = Command::Write {
             tag: 0,
@@ -161,109 +78,50 @@ fn write_all(
             many: 8,
             fill: first.wrapping_add(i),
         };
-        serve(session, chip, room, bytes, out, write);
+        serve(player, write);
     }
-    serve(session, chip, room, bytes, out, Command::Flush { tag: 1 });
+    serve(player, Command::Flush { tag: 1 });
 }
 
 // All sectors are read, eight at a time.
-fn read_all(
-    session: &mut Session,
-    chip: &mut MemoryChip,
-    room: &mut [u8],
-    bytes: &mut [u8],
-    out: &mut Output,
-)
-    requires up { Up (held chip.old.store) session.old room.old }
-    requires lent { length bytes.old ≡ 32768 }
-    ensures { Up (held chip.new.store) session.new room.new }
-{
-    for i in 0..40u32 {
+fn read_all(player: &mut Player<MemoryChip>) {
+    for i in 0..40 {
         let read = Command::Read {
             tag: 2,
             from: 8 * i,
             many: 8,
         };
-        serve(session, chip, room, bytes, out, read);
+        serve(player, read);
     }
 }
 
 // With all tricks of the chip: all sectors written four times, flushed, and a cut after each flush; then they are read.
-fn play_failures(
-    session: &mut Session,
-    chip: &mut MemoryChip,
-    room: &mut [u8],
-    bytes: &mut [u8],
-    out: &mut Output,
-    tally: &mut Tally,
-)
-    requires up { Up (held chip.old.store) session.old room.old }
-    requires lent { length bytes.old ≡ 32768 }
-    ensures { Up (held chip.new.store) session.new room.new }
-{
-    play_line(
-        session,
-        chip,
-        room,
-        bytes,
-        out,
-        Some(Command::Seed { seed: 11 }),
-        1,
-    );
+pub fn play_failures(player: &mut Player<MemoryChip>, tally: &mut Tally) {
+    player.play_line(Some(Command::Seed { seed: 11 }), 1);
     for round in 0..4u8 {
-        write_all(session, chip, room, bytes, out, 16 * round);
-        play_line(
-            session,
-            chip,
-            room,
-            bytes,
-            out,
-            Some(Command::Cut { asks: 0 }),
-            2,
-        );
-        tally.take(out);
+        write_all(player, 16 * round);
+        player.play_line(Some(Command::Cut { asks: 0 }), 2);
+        tally.take(&mut player.out);
     }
-    read_all(session, chip, room, bytes, out);
+    read_all(player);
 }
 
 // 300 sectors once.
-fn fill_some(
-    session: &mut Session,
-    chip: &mut MemoryChip,
-    room: &mut [u8],
-    bytes: &mut [u8],
-    out: &mut Output,
-    tally: &mut Tally,
-)
-    requires up { Up (held chip.old.store) session.old room.old }
-    requires lent { length bytes.old ≡ 32768 }
-    ensures { Up (held chip.new.store) session.new room.new }
-{
-    for sector in 0..300u32 {
+pub fn fill_some(player: &mut Player<MemoryChip>, tally: &mut Tally) {
+    for sector in 0..300 {
         let write = Command::Write {
             tag: 0,
             from: sector,
             many: 1,
             fill: 1,
         };
-        serve(session, chip, room, bytes, out, write);
-        tally.take(out);
+        serve(player, write);
+        tally.take(&mut player.out);
     }
 }
 
 // One sector 30,000 times, with a flush after each tenth.
-fn overwrite_one(
-    session: &mut Session,
-    chip: &mut MemoryChip,
-    room: &mut [u8],
-    bytes: &mut [u8],
-    out: &mut Output,
-    tally: &mut Tally,
-)
-    requires up { Up (held chip.old.store) session.old room.old }
-    requires lent { length bytes.old ≡ 32768 }
-    ensures { Up (held chip.new.store) session.new room.new }
-{
+pub fn overwrite_one(player: &mut Player<MemoryChip>, tally: &mut Tally) {
     for i in 0..30_000u32 {
         let write = Command::Write {
             tag: 0,
@@ -271,64 +129,42 @@ fn overwrite_one(
             many: 1,
             fill: 2,
         };
-        serve(session, chip, room, bytes, out, write);
+        serve(player, write);
         if i % 10 == 9 {
-            serve(session, chip, room, bytes, out, Command::Flush { tag: 1 });
+            serve(player, Command::Flush { tag: 1 });
         }
-        tally.take(out);
+        tally.take(&mut player.out);
     }
 }
 
 // Plays one of them and prints what it tells.
-pub fn play_long(
+pub fn play_long<F: FnOnce(&mut Player<MemoryChip>, &mut Tally)>(
     rt: &HostRuntime,
     chip: &mut MemoryChip,
     room: &mut [u8],
-    kind: Long,
-) -> io::Result<()> {
-    let mut bytes = [0u8; 32768];
+    play: F,
+) -> io::Result<()>
+    requires { F.IsAlwaysCallable play }
+{
     let mut text = [0u8; 8192];
-    let mut session = Session::new(false, false);
-    let mut tally = Tally {
-        told: 0,
-        refused: 0,
-        others: 0,
-    };
-    let mut out = Output::new(&mut text);
-    match kind {
-        Long::Cuts => play_cuts(&mut session, chip, room, &mut bytes, &mut out),
-        Long::Failures => {
-            play_failures(&mut session, chip, room, &mut bytes, &mut out, &mut tally);
-        }
-        Long::Overwrites => {
-            fill_some(&mut session, chip, room, &mut bytes, &mut out, &mut tally);
-            overwrite_one(&mut session, chip, room, &mut bytes, &mut out, &mut tally);
-        }
-    }
-    let len = out.len;
-    print_text(rt, &text, len)?;
+    let mut tally = Tally::default();
+    let mut player = Player::new(chip, room, &mut text, Options::default());
+    play(&mut player, &mut tally);
+    rt.stdout().write_all(player.out.printed())?;
     print_tally(rt, tally)?;
     print_wear(rt, chip)
 }
 
-// Prints the front of some text.
-fn print_text(rt: &HostRuntime, text: &[u8], len: usize) -> io::Result<()> {
-    if len > text.len() {
-        return Ok(());
-    }
-    rt.stdout().write_all(&text[0..len])
-}
-
 // Prints what was counted, if anything was.
 fn print_tally(rt: &HostRuntime, tally: Tally) -> io::Result<()> {
+    if tally == Tally::default() {
+        return Ok(());
+    }
     let Tally {
         told,
         refused,
         others,
     } = tally;
-    if told == 0 && refused == 0 && others == 0 {
-        return Ok(());
-    }
     println!(rt; "told {told} refused {refused} else {others}")
 }
 

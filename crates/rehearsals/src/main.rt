@@ -5,88 +5,48 @@ ghost use Rattle.std.specs.Prelude.{◌<◌};
 
 mod long;
 
-use bench::{BlockCell, ChipMemory, Geometry, MemoryChip, Mode, PageState, made};
-use long::{Long, play_long};
-use output::Output;
-use player::{Session, play_script, print_erased};
+use bench::{MemoryChip, Mode};
+use long::{fill_some, overwrite_one, play_cuts, play_failures, play_long};
+use player::{Options, Player, on_small_chip};
 use std::io;
 use std::io::Write;
 
-// Prints what was noted.
-fn print_out(rt: &HostRuntime, bytes: &[u8], len: usize) -> io::Result<()> {
-    if len > bytes.len() {
-        return Ok(());
+// The bytes of a chip's pages, and a drive's room.
+#[derive(Drop)]
+struct Memory<'a> {
+    pages: &'a mut [u8],
+    room: &'a mut [u8],
+}
+
+// Plays something on a new chip.
+fn rehearse<F: FnOnce(&mut MemoryChip, &mut [u8]) -> io::Result<()>>(
+    rt: &HostRuntime,
+    memory: &mut Memory,
+    title: &str,
+    play: F,
+) -> io::Result<()>
+    requires { F.IsAlwaysCallable play }
+{
+    println!(rt; "== {title}")?;
+    let room = &mut *memory.room;
+    match on_small_chip(memory.pages, Mode::Plain, |chip| play(chip, room)) {
+        Ok(played) => played,
+        Err(_) => println!(rt; "no chip"),
     }
-    rt.stdout().write_all(&bytes[0..len])
 }
 
 // Plays a script.
-fn perform(
+fn play_text(
     rt: &HostRuntime,
     chip: &mut MemoryChip,
     room: &mut [u8],
     script: &[u8],
 ) -> io::Result<()> {
-    let mut bytes = [0u8; 32768];
     let mut text = [0u8; 8192];
-    let mut session = Session::new(false, false);
-    let mut out = Output::new(&mut text);
-    let _lines = play_script(&mut session, chip, room, &mut bytes, &mut out, script);
-    print_erased(chip, &mut out);
-    let len = out.len;
-    print_out(rt, &text, len)
-}
-
-// A new chip of 32 blocks of 16 pages, and a script on it.
-fn rehearse(
-    rt: &HostRuntime,
-    pages: &mut [u8],
-    states: &mut [PageState],
-    cells: &mut [BlockCell],
-    room: &mut [u8],
-    title: &str,
-    script: &[u8],
-) -> io::Result<()> {
-    println!(rt; "== {title}")?;
-    let memory = ChipMemory {
-        bytes: pages,
-        states,
-        cells,
-    };
-    let geometry = Geometry {
-        blocks: 32,
-        pages: 16,
-    };
-    match made(memory, geometry, &[], Mode::Plain) {
-        Ok(mut chip) => perform(rt, &mut chip, room, script),
-        Err(_) => println!(rt; "no chip"),
-    }
-}
-
-// A chip of 32 blocks of 16 pages from the maker, and a script that is given by its kind.
-fn rehearse_long(
-    rt: &HostRuntime,
-    pages: &mut [u8],
-    states: &mut [PageState],
-    cells: &mut [BlockCell],
-    room: &mut [u8],
-    title: &str,
-    kind: Long,
-) -> io::Result<()> {
-    println!(rt; "== {title}")?;
-    let memory = ChipMemory {
-        bytes: pages,
-        states,
-        cells,
-    };
-    let geometry = Geometry {
-        blocks: 32,
-        pages: 16,
-    };
-    match made(memory, geometry, &[], Mode::Plain) {
-        Ok(mut chip) => play_long(rt, &mut chip, room, kind),
-        Err(_) => println!(rt; "no chip"),
-    }
+    let mut player = Player::new(chip, room, &mut text, Options::default());
+    player.play_script(script);
+    player.print_erased();
+    rt.stdout().write_all(player.out.printed())
 }
 
 fn main(rt: HostRuntime) -> io::Result<()> {
@@ -99,100 +59,69 @@ fn run<const PAGES: usize, const ROOM: usize>(rt: &HostRuntime) -> io::Result<()
 {
     let mut pages = [0u8; PAGES];
     let mut room = [0u8; ROOM];
-    let mut states = [PageState::Blank; 512];
-    let mut cells = [BlockCell::untouched(); 32];
-    play_short(rt, &mut pages, &mut states, &mut cells, &mut room)?;
-    play_longer(rt, &mut pages, &mut states, &mut cells, &mut room)
+    let mut memory = Memory {
+        pages: &mut pages,
+        room: &mut room,
+    };
+    play_short(rt, &mut memory)?;
+    play_longer(rt, &mut memory)
 }
 
-// Scripts of some lines.
-fn play_short(
-    rt: &HostRuntime,
-    pages: &mut [u8],
-    states: &mut [PageState],
-    cells: &mut [BlockCell],
-    room: &mut [u8],
-) -> io::Result<()> {
-    rehearse(
-        rt,
-        pages,
-        states,
-        cells,
-        room,
-        "a read of a new drive",
-        b"read 4 9 2\nturn 3\n",
-    )?;
-    rehearse(
-        rt,
-        pages,
-        states,
-        cells,
-        room,
+// The scripts of some lines, each with its title.
+const SHORT: [(&str, &[u8]); 5] = [
+    ("a read of a new drive", b"read 4 9 2\nturn 3\n"),
+    (
         "a write that was told and not flushed, and two cuts",
         b"write 3 5 1 07\nturn 20\nread 4 5 1\nturn 20\ncut 0\nread 4 5 1\nturn 20\ncut 0\nread 4 5 1\nturn 20\n",
-    )?;
-    rehearse(
-        rt,
-        pages,
-        states,
-        cells,
-        room,
+    ),
+    (
         "a write that was flushed, and two cuts",
         b"write 3 5 1 07\nturn 20\nflush 5\nturn 20\nread 4 5 1\nturn 20\ncut 0\nread 4 5 1\nturn 20\ncut 0\nread 4 5 1\nturn 20\n",
-    )?;
-    rehearse(
-        rt,
-        pages,
-        states,
-        cells,
-        room,
+    ),
+    (
         "two writes of one sector under way together",
         b"write 3 5 1 07\nwrite 4 5 1 08\nturn 20\nread 5 5 1\nturn 20\nread 6 5 1\nturn 20\n",
-    )?;
-    rehearse(
-        rt,
-        pages,
-        states,
-        cells,
-        room,
+    ),
+    (
         "a write beyond the last sector",
         b"write 0 318 8 01\nturn 20\n",
-    )
+    ),
+];
+
+// Scripts of some lines.
+fn play_short(rt: &HostRuntime, memory: &mut Memory) -> io::Result<()> {
+    for (title, script) in &SHORT {
+        rehearse(
+            rt,
+            memory,
+            title,
+            |chip, room| play_text(rt, chip, room, script),
+        )?;
+    }
+    Ok(())
 }
 
 // Scripts of many lines.
-fn play_longer(
-    rt: &HostRuntime,
-    pages: &mut [u8],
-    states: &mut [PageState],
-    cells: &mut [BlockCell],
-    room: &mut [u8],
-) -> io::Result<()> {
-    rehearse_long(
+fn play_longer(rt: &HostRuntime, memory: &mut Memory) -> io::Result<()> {
+    rehearse(
         rt,
-        pages,
-        states,
-        cells,
-        room,
+        memory,
         "a cut at each of the first 40 asks of a coming-up",
-        Long::Cuts,
+        |chip, room| play_long(rt, chip, room, |player, _| play_cuts(player)),
     )?;
-    rehearse_long(
+    rehearse(
         rt,
-        pages,
-        states,
-        cells,
-        room,
+        memory,
         "all sectors written four times on a chip whose blocks fail, with a cut after each flush",
-        Long::Failures,
+        |chip, room| play_long(rt, chip, room, play_failures),
     )?;
-    rehearse_long(
+    rehearse(
         rt,
-        pages,
-        states,
-        cells,
-        room,
+        memory,
         "300 sectors written once, then one of them 30,000 times, with a flush after each tenth",
-        Long::Overwrites,
+        |chip, room| play_long(rt, chip, room, |player, tally| {
+            fill_some(player, tally);
+            overwrite_one(player, tally);
+        }),
     )
 }

@@ -1,5 +1,0 @@
-use Prim.Native.Nat.{◌≤◌}
-use Rattle.exports.proofs.chip_exports.read_often.Given as goal
-
-abbrev pub invariant-loop : goal.invariant-loop
-invariant-loop g l = l.done ≤ l.counter
