@@ -1,11 +1,12 @@
 // The chip in memory alone, to measure it.
-ghost use Rattle.std.specs.Prelude.{◌*◌, ◌≤◌, length, ◌≡◌};
+ghost use Rattle.std.specs.Prelude.{◌*◌, ◌<◌, ◌≤◌, length, ◌≡◌};
 ghost use Rattle.bench_tests.specs.Asked.{Kept};
 
-use crate::page_states::{MOST_PAGES, pack, unpack};
-use bench::{BlockCell, ChipMemory, Geometry, Mode, PageState, made, resume};
+use crate::page_states::with_states;
+use bench::{BlockCell, ChipMemory, Geometry, Mode, made, resume};
 use bench_tests::{look, rewrite};
 use drive::{Answer, Bench, Chip};
+use player::on_small_chip;
 
 // Reads the first page of a chip in memory so often, after it was written, and says how often that went well. The chip has 32 blocks of 16 pages in the
 // lent bytes, and does now and then whatever the data sheet allows.
@@ -13,25 +14,12 @@ use drive::{Answer, Bench, Chip};
 pub extern "C" fn chip_read(pages: &mut [u8], page: &mut [u8], seed: u64, times: u64) -> u64
     ensures { result ≤ times }
 {
-    let mut states = [PageState::Blank; 512];
-    let mut cells = [BlockCell::untouched(); 32];
-    let memory = ChipMemory {
-        bytes: pages,
-        states: &mut states,
-        cells: &mut cells,
-    };
-    match made(
-        memory,
-        Geometry {
-            blocks: 32,
-            pages: 16,
-        },
-        &[],
+    on_small_chip(
+        pages,
         Mode::Random { seed },
-    ) {
-        Ok(mut chip) => read_often(&mut chip, page, times),
-        Err(_) => 0,
-    }
+        |chip| read_often(chip, page, times),
+    )
+    .unwrap_or(0)
 }
 
 // Writes the first page, and reads it so often.
@@ -41,8 +29,7 @@ fn read_often<C: Bench>(chip: &mut C, page: &mut [u8], times: u64) -> u64
     if page.len() != 4352 || chip.blocks() == 0 || chip.pages() == 0 {
         return 0;
     }
-    let mut room = [0u8; 1];
-    rewrite(chip, 0, page, &mut room);
+    rewrite(chip, 0, page, &mut []);
     let mut done: u64 = 0;
     for _ in 0..times {
         if read_once(chip, page) {
@@ -58,10 +45,7 @@ fn read_once<C: Bench>(chip: &mut C, page: &mut [u8]) -> bool {
         return false;
     }
     chip.allow(1);
-    match chip.read(0, 0, page) {
-        Answer::Fine => true,
-        _ => false,
-    }
+    matches!(chip.read(0, 0, page), Answer::Fine)
 }
 
 // On a new plain chip in the lent memory, erases each block and programs a sealed page, once for each page of a block; how many that were.
@@ -76,22 +60,18 @@ pub extern "C" fn chip_fill(
 ) -> u64
     ensures { (length page.old ≡ 4352 → ⊥) → result ≡ 0 }
 {
-    if states.len() > MOST_PAGES {
-        return 0;
-    }
-    let mut noted = [PageState::Blank; MOST_PAGES];
-    unpack(states, &mut noted);
-    let memory = ChipMemory {
-        bytes,
-        states: &mut noted[0..states.len()],
-        cells,
-    };
-    let done = match made(memory, Geometry { blocks, pages }, &[], Mode::Plain) {
-        Ok(mut chip) => fill(&mut chip, page, &mut [0]),
-        Err(_) => 0,
-    };
-    pack(&noted, states);
-    done
+    with_states(states, |states| {
+        let memory = ChipMemory {
+            bytes,
+            states,
+            cells,
+        };
+        match made(memory, Geometry { blocks, pages }, &[], Mode::Plain) {
+            Ok(mut chip) => rounds(&mut chip, page, fill),
+            Err(_) => 0,
+        }
+    })
+    .unwrap_or(0)
 }
 
 // On the chip that memory holds, reads the first page of each block and mends it, once for each page of a block; how many that were.
@@ -106,55 +86,44 @@ pub extern "C" fn chip_scan(
 ) -> u64
     ensures { (length page.old ≡ 4352 → ⊥) → result ≡ 0 }
 {
-    if states.len() > MOST_PAGES {
-        return 0;
-    }
-    let mut noted = [PageState::Blank; MOST_PAGES];
-    unpack(states, &mut noted);
-    let memory = ChipMemory {
-        bytes,
-        states: &mut noted[0..states.len()],
-        cells,
-    };
-    let done = match resume(memory, Geometry { blocks, pages }, Mode::Plain) {
-        Ok(mut chip) => scan(&mut chip, page, &mut [0]),
-        Err(_) => 0,
-    };
-    pack(&noted, states);
-    done
+    with_states(states, |states| {
+        let memory = ChipMemory {
+            bytes,
+            states,
+            cells,
+        };
+        match resume(memory, Geometry { blocks, pages }, Mode::Plain) {
+            Ok(mut chip) => rounds(&mut chip, page, scan),
+            Err(_) => 0,
+        }
+    })
+    .unwrap_or(0)
 }
 
-// Erases each block and programs a sealed page.
-fn fill_round<C: Bench>(chip: &mut C, page: &mut [u8], room: &mut [u8])
-    requires { length page.old ≡ 4352 }
+// Erases a block and programs a sealed page.
+fn fill<C: Bench>(chip: &mut C, block: u32, page: &mut [u8])
+    requires within { (block < (C.Chip.nand chip.old).blocks) × (0 < (C.Chip.nand chip.old).pages) }
+    requires lent { length page.old ≡ 4352 }
     ensures { Kept (C.Chip.nand chip.old) (C.Chip.nand chip.new) }
 {
-    if chip.pages() == 0 {
-        return;
-    }
-    let mark = [7u8; 32];
-    for block in 0..chip.blocks() {
-        codec::seal(page, &mark);
-        rewrite(chip, block, page, room);
-    }
+    codec::seal(page, &[7; 32]);
+    rewrite(chip, block, page, &mut []);
 }
 
-// Reads the first page of each block and mends it.
-fn scan_round<C: Bench>(chip: &mut C, page: &mut [u8], room: &mut [u8])
-    requires { length page.old ≡ 4352 }
+// Reads the first page of a block and mends it.
+fn scan<C: Bench>(chip: &mut C, block: u32, page: &mut [u8])
+    requires within { (block < (C.Chip.nand chip.old).blocks) × (0 < (C.Chip.nand chip.old).pages) }
+    requires lent { length page.old ≡ 4352 }
     ensures { Kept (C.Chip.nand chip.old) (C.Chip.nand chip.new) }
 {
-    if chip.pages() == 0 {
-        return;
-    }
-    for block in 0..chip.blocks() {
-        look(chip, block, page, room);
-        codec::unseal(page);
-    }
+    look(chip, block, page, &mut []);
+    codec::unseal(page);
 }
 
-// As many rounds of programming as a block has pages.
-fn fill<C: Bench>(chip: &mut C, page: &mut [u8], room: &mut [u8]) -> u64
+// Goes over all blocks as often as a block has pages; how many that were, and none without a page of 4,352 bytes.
+fn rounds<C: Bench, F: Fn(&mut C, u32, &mut [u8])>(chip: &mut C, page: &mut [u8], step: F) -> u64
+    requires within { (c : _) (b : _) (p : _) → b < (C.Chip.nand c.now).blocks → 0 < (C.Chip.nand c.now).pages → length p.now ≡ 4352 → F.pre step c b p }
+    requires keeps { (c : _) (b : _) (p : _) (c' : _) (p' : _) → F.post step c b p tt c' p' → Kept (C.Chip.nand c.now) (C.Chip.nand c'.now) }
     ensures { (length page.old ≡ 4352 → ⊥) → result ≡ 0 }
 {
     if page.len() != 4352 {
@@ -162,22 +131,9 @@ fn fill<C: Bench>(chip: &mut C, page: &mut [u8], room: &mut [u8]) -> u64
     }
     let mut done: u64 = 0;
     for _ in 0..chip.pages() {
-        fill_round(chip, page, room);
-        done = done.saturating_add(u64::from(chip.blocks()));
-    }
-    done
-}
-
-// As many rounds of reading as a block has pages.
-fn scan<C: Bench>(chip: &mut C, page: &mut [u8], room: &mut [u8]) -> u64
-    ensures { (length page.old ≡ 4352 → ⊥) → result ≡ 0 }
-{
-    if page.len() != 4352 {
-        return 0;
-    }
-    let mut done: u64 = 0;
-    for _ in 0..chip.pages() {
-        scan_round(chip, page, room);
+        for block in 0..chip.blocks() {
+            step(chip, block, page);
+        }
         done = done.saturating_add(u64::from(chip.blocks()));
     }
     done

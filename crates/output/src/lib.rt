@@ -6,6 +6,7 @@ ghost use Rattle.output.specs.Digits.{digit, hex_of, pair_line};
 
 // The bytes so far, and whether some found no room. They stand in lent bytes beside their number, since there is no heap.
 // There is no `fmt::Write`: of what `write!` wrote something is known only where it says `Ok`, and it never says that it will.
+// There is no `Model` either: once something found no room, the fields don't tell what was printed.
 #[derive(Drop)]
 pub struct Output<'a> {
     bytes: &'a mut [u8],

@@ -165,7 +165,7 @@ impl<C: Bench> Player<'_, C> {
         }
     }
 
-    // A command; the drive comes up first if it isn't up. Prints why it is turned away, if it is.
+    // A command; the drive comes up first if it isn't up. Prints why it is turned away, if it is: a number, which the fixed text of `Drive::ask` asks for.
     pub(crate) fn ask(&mut self, tag: u8, ask: Ask) {
         self.ensure_up();
         if self.room.len() < 262_144 {
