@@ -22,8 +22,3 @@ seed_of (Adversarial s) = s
 abbrev pub ask_of : Option ℕ → ℕ
 ask_of None = 0
 ask_of (Some n) = n + 1
-
--- of so many programmings and erasings one is to fail; 0 where none is
-abbrev pub odds_of : Option ℕ → ℕ
-odds_of None = 0
-odds_of (Some n) = n

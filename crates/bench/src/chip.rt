@@ -4,7 +4,7 @@ ghost use Rattle.drive.specs.Nand.{counted, dark};
 ghost use Rattle.drive.specs.declared.Answer.TheVariants.{Failed};
 ghost use Rattle.bench.specs.Held.{limit};
 ghost use Rattle.bench.specs.Store.{MayGoBad, held, least, most};
-ghost use Rattle.bench.specs.Tricks.{ask_of, odds_of};
+ghost use Rattle.bench.specs.Tricks.{ask_of};
 
 use super::events::Counts;
 use super::generator::Generator;
@@ -43,12 +43,12 @@ impl MemoryChip<'_> {
         self.tricks.generator = Generator { state: mode.seed() };
     }
 
-    // Where blocks may fail, of so many programmings and erasings one does; none for 0.
-    pub fn set_odds(&mut self, odds: u64)
+    // Where blocks may fail, of so many programmings and erasings one does, if any is to.
+    pub fn set_odds(&mut self, odds: Option<u64>)
         ensures same { held self.new.store ≡ held self.old.store }
-        ensures set { odds_of self.new.tricks.odds ≡ odds }
+        ensures set { self.new.tricks.odds ≡ odds }
     {
-        self.tricks.odds = (odds > 0).then_some(odds);
+        self.tricks.odds = odds;
     }
 
     // How often each thing happened.
@@ -58,7 +58,7 @@ impl MemoryChip<'_> {
         self.tricks.counts
     }
 
-    // The fewest erasings of a block that isn't bad; the counter's limit where all are.
+    // The fewest erasings of a block that isn't bad; the counter's limit where all are, a number since that is what is printed.
     pub fn least_erased(&self) -> u32
         ensures { result ≡ least (held self.now.store).blocks (held self.now.store).block }
     {

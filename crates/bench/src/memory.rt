@@ -45,7 +45,7 @@ impl BlockCell {
         self.erases >= u32::MAX - 1
     }
 
-    // After an erasing.
+    // After an erasing. Here and below the counter must not be at its limit; a record at it is one too, so that is no fact of the type.
     fn erased(self) -> BlockCell
         requires { self.erases ≢ limit }
         ensures { result ≡ erased_cell self }
@@ -122,7 +122,7 @@ pub struct Geometry {
     pub pages: u32,
 }
 
-// What is lent to a chip: 4,352 bytes and a state for each page, and a record for each block.
+// What is lent to a chip: 4,352 bytes and a state for each page, and a record for each block. Slices, since there is no heap and C lends bytes and records.
 #[derive(Drop)]
 pub struct ChipMemory<'a> {
     pub bytes: &'a mut [u8],
@@ -164,7 +164,7 @@ pub fn get_slot(bytes: &[u8], place: usize, into: &mut [u8])
     into.copy_from_slice(&bytes[start..start + 4352]);
 }
 
-// The bytes that a blank page shows.
+// The bytes that a blank page shows. Pages are slices throughout, since they are parts of what is lent.
 pub fn blank(page: &mut [u8])
     requires { length page.old ≡ 4352 }
     ensures { page.new ≡ blank_page }

@@ -57,10 +57,12 @@ fn entry(block: u32) -> usize
 }
 
 // An accessor for each field, as the format has them. Each asks for a block of the chip, as a slice does for an index: a type can't tie a number to a geometry.
+// The table of blocks and the table of places. One getter and one setter for each field, so that its place and its type are said once: one pair for all would
+// let a field be read as another. That a block is one of the chip's is asked of callers here and wherever blocks are named: it hangs on the chip, not on the number.
 impl<C: Chip> Store<'_, C> {
     ghost use Rattle.drive.specs.Stores.{Spent};
 
-    // The number that a block was given, 0 for none.
+    // The number that a block was given; on the chip and here 0 is below all that are given.
     pub fn number_of(&self, block: u32) -> u64
         requires { block < self.now.journal.now.shape.blocks }
         ensures { result ≡ value_at 8 self.now.room.now (block_at block) }

@@ -36,6 +36,7 @@ pub enum Served {
     Ended(Ended),
 }
 
+// `out` is a slice of 32,768 bytes, as the signature of `turn` has it; an array would have to be made from it there.
 impl<C: Chip> Store<'_, C> {
     ghost use Rattle.drive.specs.Stores.{Rose};
 
@@ -54,7 +55,7 @@ impl<C: Chip> Store<'_, C> {
         let Some(pending) = queue.slot(tag.number) else {
             return Ok(Served::Idle);
         };
-        match self.step(out, tag.number, pending)? {
+        match self.step(out, tag, pending)? {
             Progress::Ended => {
                 queue.end(tag);
                 Ok(Served::Ended(Ended {

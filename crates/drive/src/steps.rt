@@ -5,6 +5,7 @@ use crate::journal::Journal;
 use crate::queue::Pending;
 use crate::room::PAGE;
 use crate::store::Store;
+use crate::tag::Tag;
 use crate::{Ask, Chip, Gone};
 use record::marks::{Content, Origin, SealOrigin};
 use record::numbers::{PageIndex, SectorNumber};
@@ -12,7 +13,7 @@ use record::numbers::{PageIndex, SectorNumber};
 // What a fresh record is to hold: a sector of what a write brought, noughts, or nothing.
 #[derive(Clone, Copy)]
 pub enum Source {
-    Written { tag: u8, i: u32 },
+    Written { tag: Tag, i: u32 },
     Noughts,
     Nothing,
 }
@@ -43,8 +44,8 @@ impl<C: Chip> Store<'_, C> {
         ensures { Spent 0 self.old self.new }
     {
         match source {
-            Source::Written { tag, i } if tag < 8 && i < 8 => {
-                self.copy_data(32768 * usize::from(tag) + 4096 * i as usize, PAGE);
+            Source::Written { tag, i } if i < 8 => {
+                self.copy_data(32768 * usize::from(tag.number) + 4096 * i as usize, PAGE);
             }
             Source::Noughts => self.room[PAGE..PAGE + 4096].fill(0),
             _ => {}
@@ -156,7 +157,7 @@ impl<C: Chip> Store<'_, C> {
     }
 
     // One step for a command.
-    pub fn step(&mut self, out: &mut [u8], tag: u8, pending: Pending) -> Result<Progress, Gone>
+    pub fn step(&mut self, out: &mut [u8], tag: Tag, pending: Pending) -> Result<Progress, Gone>
         requires soon { 8 ≤ self.old.journal.now.asks }
         requires lent { length out.old ≡ 32768 }
         ensures { Rose result self.old self.new }

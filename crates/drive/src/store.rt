@@ -18,6 +18,7 @@ pub struct Store<'a, C: Chip> {
     ghost ready: { Ready (C.nand chip.now) journal.now room.now } by { Prim.hlevel props },
 }
 
+// Each function that asks the chip says how many asks it may need: these numbers are its own, so no fact of the type.
 impl<C: Chip> Store<'_, C> {
     ghost use Rattle.drive.specs.Stores.{Spent, Went};
 

@@ -75,6 +75,7 @@ pub extern "C" fn chip_fill(
 }
 
 // On the chip that memory holds, reads the first page of each block and mends it, once for each page of a block; how many that were.
+// C has a name for each of the two, and only this one finds a chip instead of making one.
 #[unsafe(no_mangle)]
 pub extern "C" fn chip_scan(
     bytes: &mut [u8],

@@ -148,7 +148,7 @@ fn play_on(
     if !is_fit(chip.blocks(), chip.pages(), room.len()) {
         return (Status::NoRoom, Report::default());
     }
-    chip.set_odds(setup.odds().unwrap_or(512));
+    chip.set_odds(setup.odds().or(Some(512)));
     let mut player = Player::new(chip, room, out, setup.options());
     let lines = player.play_script(script);
     let over = player.is_over();

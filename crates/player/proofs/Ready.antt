@@ -14,12 +14,11 @@ standing_taken n o p d room e f u = subst (λ (x : Option Drive). Up n x room) (
 
 -- more may be asked of the chip
 pub standing-allowed : (n m : Nand) (k : ℕ) (d : Drive) (room : List ℕ) → m ≡ allowed k n → Standing n d room → Standing m d room
-standing-allowed n m k d room e s =
-    (
-      ready_same n m d.journal d.journal room room (ap (λ (x : Nand). x.blocks) e) (ap (λ (x : Nand). x.pages) e) (ap (λ (x : Nand). x.block) e)
+standing-allowed n m k d room e s = (
+  ready_same n m d.journal d.journal room room (ap (λ (x : Nand). x.blocks) e) (ap (λ (x : Nand). x.pages) e) (ap (λ (x : Nand). x.block) e)
       (omega (arith, s.1)) refl refl refl s.0,
-      s.1,
-    )
+  s.1,
+)
 
 -- a command was asked: the journal is the same, and the room as long
 pub standing_asked : (n : Nand) (d e : Drive) (room room' : List ℕ) → e.journal ≡ d.journal → length room' ≡ length room → Standing n d room → Standing n e room'

@@ -22,6 +22,7 @@ pub trait Unsigned<const N: usize>: Copy {
     ghost nonempty: { 0 < N };
 }
 
+// One impl for each type, since an impl may not be written by a macro.
 impl Unsigned<2> for u16 {
     ghost number = { λ x. x };
 
