@@ -1,11 +1,10 @@
 -- Why there is a chip of 32 blocks of 16 pages. Assumes nothing.
-use Rattle.std.proofs.Common.{◌≡◌, ℕ, ◌≤◌, ◌⊎◌, true, List, [], length, refl, ⊎_elim, arith}
+use Rattle.std.proofs.Common.{◌≡◌, ℕ, ◌≤◌, ◌⊎◌, true, [], length, refl, ⊎_elim, arith}
 use Rattle.std.proofs.lemmas.Bool.{le-leb, both_ways}
 use Rattle.drive.specs.Nand.{Blank, bads}
 use Rattle.bench.specs.Held.{spaced, block_with}
 use Rattle.bench.specs.Made.{Unfit, Misfit, listed, marked}
-use Rattle.bench.specs.declared.memory.PageState.{PageState}
-use Rattle.bench.specs.declared.memory.BlockCell.{BlockCell}
+use Rattle.bench.specs.declared.memory.ChipMemory.{ChipMemory}
 use Rattle.bench.specs.declared.make.Refusal.{Refusal}
 use Rattle.bench.specs.declared.make.Refusal.TheVariants.{Blocks, Pages, Space, NoSuchBlock, TooManyBad}
 
@@ -21,10 +20,11 @@ has_space bytes h = le-leb 2228224 bytes h
 
 -- nothing stands against the chip
 pub small_fits :
-    (e : Refusal) (bytes : List ℕ) (states : List PageState) (cells : List BlockCell) → length states ≡ 512 → length cells ≡ 32 → 2228224 ≤ length bytes
-    → Unfit e bytes states cells 32 16 ⊎ Misfit e 32 [] → ⊥
-small_fits Blocks bytes states cells s c h r = ⊎_elim (λ u. ⊎_elim (λ p. absurd (omega (arith, p))) (λ p. absurd (omega (arith, p))) u) (λ m. m) r
-small_fits Pages bytes states cells s c h r = ⊎_elim (λ u. ⊎_elim (λ p. absurd (omega (arith, p))) (λ v. ⊎_elim (λ p. absurd (omega (arith, p))) (λ p. p refl) v) u) (λ m. m) r
-small_fits Space bytes states cells s c h r = ⊎_elim (λ u. both_ways (spaced (length bytes) (length states) (length cells) 32 16) u (rw (s, c) (has_space (length bytes) h))) (λ m. m) r
-small_fits NoSuchBlock bytes states cells s c h r = ⊎_elim (λ u. u) (λ m. absurd (omega (arith, m.1))) r
-small_fits TooManyBad bytes states cells s c h r = ⊎_elim (λ u. u) (λ m. absurd (omega (arith, none_bad, m))) r
+    (e : Refusal) (m : ChipMemory) → length m.states.now ≡ 512 → length m.cells.now ≡ 32 → 2228224 ≤ length m.bytes.now
+    → Unfit e m (record { blocks = 32; pages = 16 }) ⊎ Misfit e 32 [] → ⊥
+small_fits Blocks m s c h r = ⊎_elim (λ u. ⊎_elim (λ p. absurd (omega (arith, p))) (λ p. absurd (omega (arith, p))) u) (λ m. m) r
+small_fits Pages m s c h r = ⊎_elim (λ u. ⊎_elim (λ p. absurd (omega (arith, p))) (λ v. ⊎_elim (λ p. absurd (omega (arith, p))) (λ p. p refl) v) u) (λ m. m) r
+small_fits Space m s c h r =
+    ⊎_elim (λ u. both_ways (spaced (length m.bytes.now) (length m.states.now) (length m.cells.now) 32 16) u (rw (s, c) (has_space (length m.bytes.now) h))) (λ m. m) r
+small_fits NoSuchBlock m s c h r = ⊎_elim (λ u. u) (λ m. absurd (omega (arith, m.1))) r
+small_fits TooManyBad m s c h r = ⊎_elim (λ u. u) (λ m. absurd (omega (arith, none_bad, m))) r
