@@ -21,7 +21,7 @@ pub struct MemoryChip<'a> {
 }
 
 impl MemoryChip<'_> {
-    // The power goes in the midst of the ask with this number, counted from now on, or at once if that is 0.
+    // The power goes in the midst of the ask with this number, counted from now on, or at once if that is 0, as a script says it.
     // It takes the place of what was said before.
     pub fn cut(&mut self, ask: u64)
         ensures now { ask ≡ 0 → held self.new.store ≡ dark (held self.old.store) }

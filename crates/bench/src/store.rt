@@ -13,7 +13,7 @@ use super::memory::{
 use drive::Answer;
 
 // The memory and the geometry of a chip; whether the power is on, and how often more it may be asked.
-// That the memory has space is no ghost field: parts of the slices in `memory` are lent, which is not covered beside one.
+// That the memory has space is no ghost field: parts of slices are lent that lie in a struct within this one, which is not covered beside one.
 #[derive(Drop)]
 pub struct Store<'a> {
     pub memory: ChipMemory<'a>,
@@ -135,14 +135,14 @@ impl Store<'_> {
         cell.erases >= 3000 || 16 * (self.bad_blocks() + 1) <= self.blocks()
     }
 
-    // The fewest erasings of a block that isn't bad; the counter's limit where all are.
+    // The fewest erasings of a block that isn't bad; the counter's limit where all are, a number since that is what is printed.
     pub fn least_erased(&self) -> u32
         ensures { result ≡ least (held self.now).blocks (held self.now).block }
     {
         least_of(self.cells()).unwrap_or(u32::MAX)
     }
 
-    // The most erasings of a block that isn't bad; 0 where all are.
+    // The most erasings of a block that isn't bad; 0 where all are, a number since that is what is printed.
     pub fn most_erased(&self) -> u32
         ensures { result ≡ most (held self.now).blocks (held self.now).block }
     {

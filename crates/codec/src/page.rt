@@ -21,8 +21,7 @@ fn parities(pieces: &[u8]) -> [u8; 33]
     checks
 }
 
-// Pages and marks are slices here and below, since callers lend parts of a room.
-// Writes the mark and the check bytes behind 4,096 bytes of data.
+// Writes the mark and the check bytes behind 4,096 bytes of data. Pages are slices here and below, since callers lend parts of a room, and C lends marks.
 pub fn seal(page: &mut [u8], mark: &[u8])
     requires { (length page.old ≡ 4352) × (length mark.now ≡ 32) }
     ensures sealed { page.new ≡ paged mark.now (take 4096 page.old) }

@@ -1,5 +1,5 @@
 // Appending to the log: one try at a time.
-ghost use Rattle.std.specs.Prelude.{◌≡◌, ℕ, ◌<◌, ◌≤◌, IfOk, IfSome};
+ghost use Rattle.std.specs.Prelude.{◌<◌, ◌≤◌, IfOk, IfSome};
 
 use crate::room::{LIST, PAGE};
 use crate::store::Store;

@@ -1,7 +1,7 @@
 // Coming up, third part: which records of the head are believed.
-ghost use Rattle.std.specs.Prelude.{◌≡◌, ℕ};
 
 use crate::journal::{is_copied, is_seal};
+use crate::room::Address;
 use crate::store::Store;
 use crate::survey::Candidate;
 use crate::{Chip, Gone};
@@ -94,7 +94,11 @@ impl<C: Chip> Store<'_, C> {
                 break;
             }
             let count = RecordCount { count: page };
-            match self.show_record(head.block, page)? {
+            let place = Address {
+                block: head.block,
+                page,
+            };
+            match self.show_record(place)? {
                 Some(record) => {
                     belief = seen(belief, count, record);
                 }

@@ -1,5 +1,5 @@
 // The blocks of the log: which one is next, and what is noted of each.
-ghost use Rattle.std.specs.Prelude.{◌≡◌, ℕ, ◌<◌, ◌≤◌, length};
+ghost use Rattle.std.specs.Prelude.{◌<◌, ◌≤◌};
 
 use crate::Chip;
 use crate::room::{LIST, PAGE, Standing};

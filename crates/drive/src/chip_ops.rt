@@ -3,7 +3,7 @@ ghost use Rattle.std.specs.Prelude.{◌≡◌, ℕ, ◌<◌, ◌≤◌, length};
 ghost use Rattle.drive.specs.Nand.{Nand, MayRead, MayErase};
 ghost use Rattle.drive.specs.ChipOps.{Holds, Erases, Programs, Reads, Looked};
 
-use crate::room::{LIST, PAGE};
+use crate::room::{Address, LIST, PAGE};
 use crate::{Answer, Chip, Gone};
 use record::layout::from_bytes;
 use record::marks::Mark;
@@ -57,29 +57,24 @@ pub fn program_next<C: Chip>(c: &mut C, head: Head, from: &[u8]) -> Result<Progr
 }
 
 // Reads a page as the chip shows it.
-pub fn read_page<C: Chip>(c: &mut C, block: u32, page: u32, into: &mut [u8]) -> Result<(), Gone>
-    requires may { MayRead (C.nand c.old) block page }
+pub fn read_page<C: Chip>(c: &mut C, place: Address, into: &mut [u8]) -> Result<(), Gone>
+    requires may { MayRead (C.nand c.old) place.block place.page }
     requires lent { length into.old ≡ 4352 }
-    ensures { Reads (C.nand c.old) block page into.new result (C.nand c.new) }
+    ensures { Reads (C.nand c.old) place.block place.page into.new result (C.nand c.new) }
 {
-    match c.read(block, page, into) {
+    match c.read(place.block, place.page, into) {
         Answer::Fine => Ok(()),
         _ => Err(Gone),
     }
 }
 
 // Reads a page into the room's page buffer, and the mark that it shows.
-pub fn read_mark<C: Chip>(
-    c: &mut C,
-    room: &mut [u8],
-    block: u32,
-    page: u32,
-) -> Result<Option<Mark>, Gone>
-    requires may { MayRead (C.nand c.old) block page }
+pub fn read_mark<C: Chip>(c: &mut C, room: &mut [u8], place: Address) -> Result<Option<Mark>, Gone>
+    requires may { MayRead (C.nand c.old) place.block place.page }
     requires lent { 1048576 ≤ length room.old }
     ensures { Looked (C.nand c.old) result (C.nand c.new) }
 {
-    read_page(c, block, page, &mut room[PAGE..LIST])?;
+    read_page(c, place, &mut room[PAGE..LIST])?;
     let mark = shown(&room[PAGE..LIST]);
     Ok(mark)
 }

@@ -1,5 +1,5 @@
 // Garbage collection: the oldest records are looked at, and those that are still needed are copied to the head.
-ghost use Rattle.std.specs.Prelude.{◌≡◌, ℕ, ◌<◌, ◌≤◌, IfSome};
+ghost use Rattle.std.specs.Prelude.{◌≡◌, ◌<◌, ◌≤◌};
 ghost use Rattle.words.specs.Words.{value_at};
 ghost use Rattle.drive.specs.Room.{place_at, placed};
 ghost use Rattle.drive.specs.Host.{noughts};
@@ -95,7 +95,7 @@ impl<C: Chip> Store<'_, C> {
         let Some(place) = self.tail_place() else {
             return Ok(None);
         };
-        match self.show_record(place.block, place.page)? {
+        match self.show_record(place)? {
             Some(record) if record.index.index == self.journal.tail => Ok(Some(record)),
             _ => Ok(None),
         }

@@ -1,5 +1,5 @@
 // What the drive knows of its log.
-ghost use Rattle.std.specs.Prelude.{◌≡◌, ℕ, ◌+◌, ◌*◌, ◌<◌, ◌≤◌, not, ◌&&◌, if◌then◌else◌};
+ghost use Rattle.std.specs.Prelude.{◌≡◌, ◌<◌, ◌≤◌, not, ◌&&◌, if◌then◌else◌};
 
 use crate::chip_ops::Head;
 use crate::room::Shape;

@@ -157,7 +157,7 @@ pub fn open<C: Chip>(c: &mut C, room: &mut [u8]) -> Result<Drive, Gone>
 }
 
 impl Drive {
-    // 0, or why it is turned away. The chip isn't asked.
+    // 0, or why it is turned away, as a number since the signature is fixed. The chip isn't asked.
     pub fn ask(&mut self, room: &mut [u8], tag: u8, a: Ask, bytes: &[u8]) -> u8
         requires lent { (262144 ≤ length room.old) × (32768 ≤ length bytes.now) }
         ensures told { (h : Seen) (bs : List ℕ) → Under self.old.queue h → result ≡ verdict self.old.journal.stuck (sectors_of self.old) h tag (cmd_of a bs) }

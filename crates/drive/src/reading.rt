@@ -1,5 +1,5 @@
 // Reading a sector.
-ghost use Rattle.std.specs.Prelude.{◌≡◌, ℕ, ◌≤◌, length};
+ghost use Rattle.std.specs.Prelude.{◌≡◌, ◌≤◌, length};
 
 use crate::room::PAGE;
 use crate::store::Store;
@@ -8,10 +8,7 @@ use record::marks::{Content, RecordMark};
 
 // Whether a record is a sector's content.
 fn holds_sector(record: RecordMark, sector: u32) -> bool {
-    match record.content {
-        Content::Data { sector: held, .. } => held.number == sector,
-        _ => false,
-    }
+    matches!(record.content, Content::Data { sector: held, .. } if held.number == sector)
 }
 
 impl<C: Chip> Store<'_, C> {
@@ -27,7 +24,7 @@ impl<C: Chip> Store<'_, C> {
             out.fill(0);
             return Ok(true);
         };
-        let Some(record) = self.show_record(place.block, place.page)? else {
+        let Some(record) = self.show_record(place)? else {
             return Ok(false);
         };
         if !holds_sector(record, sector) {

@@ -1,9 +1,9 @@
 // Coming up: what is believed is written down in a block of its own before anything else is done.
-ghost use Rattle.std.specs.Prelude.{◌≡◌, ℕ, ◌<◌, ◌≤◌};
+ghost use Rattle.std.specs.Prelude.{◌<◌, ◌≤◌};
 
 use crate::belief::Belief;
 use crate::journal::Journal;
-use crate::room::{LIST, PAGE, Standing};
+use crate::room::{Address, LIST, PAGE, Standing};
 use crate::store::Store;
 use crate::survey::Candidate;
 use crate::{Chip, Gone};
@@ -123,7 +123,11 @@ impl<C: Chip> Store<'_, C> {
         requires { 1 ≤ self.old.journal.now.asks }
         ensures { Rose result self.old self.new }
     {
-        let Some(record) = self.show_record(head.block, page)? else {
+        let place = Address {
+            block: head.block,
+            page,
+        };
+        let Some(record) = self.show_record(place)? else {
             return Ok(false);
         };
         self.mend_page();

@@ -1,5 +1,5 @@
 // What lies where in the room: the one place that says it.
-ghost use Rattle.std.specs.Prelude.{◌≡◌, ℕ, ◌+◌, ◌*◌, ◌<◌, ◌≤◌, length, ◌==◌};
+ghost use Rattle.std.specs.Prelude.{◌≡◌, ◌+◌, ◌*◌, ◌<◌, ◌≤◌, ◌==◌};
 ghost use Rattle.words.specs.Words.{value_at, Written};
 ghost use Rattle.drive.specs.Room.{block_at, place_at, standing, code_of, placed};
 
@@ -56,13 +56,12 @@ fn entry(block: u32) -> usize
     BLOCKS + 32 * block as usize
 }
 
-// An accessor for each field, as the format has them. Each asks for a block of the chip, as a slice does for an index: a type can't tie a number to a geometry.
 // The table of blocks and the table of places. One getter and one setter for each field, so that its place and its type are said once: one pair for all would
-// let a field be read as another. That a block is one of the chip's is asked of callers here and wherever blocks are named: it hangs on the chip, not on the number.
+// let a field be read as another. Each asks for a block of the chip, as a slice does for an index: a type can't tie a number to a geometry.
 impl<C: Chip> Store<'_, C> {
     ghost use Rattle.drive.specs.Stores.{Spent};
 
-    // The number that a block was given; on the chip and here 0 is below all that are given.
+    // The number that a block was given; the chip's void marks have 0 for none, and so has the room.
     pub fn number_of(&self, block: u32) -> u64
         requires { block < self.now.journal.now.shape.blocks }
         ensures { result ≡ value_at 8 self.now.room.now (block_at block) }

@@ -1,6 +1,5 @@
 // Between the commands and the log.
 ghost use Rattle.std.specs.Prelude.{◌≡◌, false, length, is_ok, IfOk};
-ghost use Rattle.drive.specs.Nand.{Nand};
 ghost use Rattle.drive.specs.Journals.{Ready};
 ghost use Rattle.drive.specs.Service.{Serves, Turns};
 
@@ -11,7 +10,7 @@ use crate::store::Store;
 use crate::{Chip, Ended, Gone};
 
 impl Journal {
-    // Comes up on a chip, or notes that it can't. Not in `open` itself: the check doesn't cover calls of a struct that refers to a local variable.
+    // Comes up on a chip, or notes that it can't. Not in `open` itself, where the journal is a local variable: what became of it after such calls isn't known there.
     pub fn come_up<C: Chip>(&mut self, c: &mut C, room: &mut [u8]) -> Result<(), Gone>
         requires { Ready (C.nand c.old) self.old room.old }
         ensures ready { IfOk result (λ _. Ready (C.nand c.new) self.new room.new) }

@@ -1,5 +1,5 @@
 // The steps of commands: one record looked at, one sector taken, or a read.
-ghost use Rattle.std.specs.Prelude.{◌≡◌, ℕ, ◌+◌, ◌≤◌, length};
+ghost use Rattle.std.specs.Prelude.{◌≡◌, ◌≤◌, length};
 
 use crate::journal::Journal;
 use crate::queue::Pending;
@@ -88,18 +88,17 @@ impl<C: Chip> Store<'_, C> {
         requires { 8 ≤ self.old.journal.now.asks }
         ensures { Went 8 result self.old self.new }
     {
-        if sector >= 10_485_760 {
+        let Some(sector) = sector_number(sector) else {
             return Ok(false);
-        }
-        let number = sector as u32;
+        };
         let content = Content::Data {
             origin: Origin::Fresh,
-            sector: SectorNumber { number },
+            sector,
         };
         if !self.append_fresh(content, source)? {
             return Ok(false);
         }
-        self.note_place(number);
+        self.note_place(sector.number);
         Ok(true)
     }
 
@@ -113,6 +112,12 @@ impl<C: Chip> Store<'_, C> {
         };
         self.append_fresh(seal, Source::Nothing)
     }
+}
+
+// The number as one of a sector, if it may be one.
+fn sector_number(number: u64) -> Option<SectorNumber> {
+    let number = u32::try_from(number).ok()?;
+    number.try_into().ok()
 }
 
 // What a step did for a command: it has ended, one of its sectors was taken, or it goes on.
@@ -143,13 +148,17 @@ impl<C: Chip> Store<'_, C> {
         requires { length out.old ≡ 32768 }
         ensures { Rose result self.old self.new }
     {
-        for i in 0..many {
-            let sector = from.saturating_add(u64::from(i));
-            if self.journal.blind || self.journal.asks < 1 || i >= 8 || sector >= 10_485_760 {
+        if many > 8 {
+            return Ok(false);
+        }
+        for (i, part) in (0..many).zip(out.chunks_exact_mut(4096)) {
+            let Some(sector) = sector_number(from.saturating_add(u64::from(i))) else {
+                return Ok(false);
+            };
+            if self.journal.blind || self.journal.asks < 1 {
                 return Ok(false);
             }
-            let at = 4096 * i as usize;
-            if !self.read_sector(sector as u32, &mut out[at..at + 4096])? {
+            if !self.read_sector(sector.number, part)? {
                 return Ok(false);
             }
         }

@@ -1,11 +1,11 @@
 // The chip, the room and the journal together, and single asks.
-ghost use Rattle.std.specs.Prelude.{◌≡◌, ℕ, ◌+◌, ◌<◌, ◌≤◌, true, IfSome};
+ghost use Rattle.std.specs.Prelude.{◌≡◌, ◌<◌, ◌≤◌, true, IfSome};
 ghost use Rattle.std.proofs.Props.{props};
-ghost use Rattle.drive.specs.Nand.{Nand};
 ghost use Rattle.drive.specs.Journals.{Ready, Free};
 
 use crate::chip_ops::{Programmed, erase_block, program_next, read_mark};
 use crate::journal::Journal;
+use crate::room::Address;
 use crate::{Chip, Gone};
 use record::marks::{Mark, RecordMark};
 
@@ -20,28 +20,28 @@ pub struct Store<'a, C: Chip> {
 
 // Each function that asks the chip says how many asks it may need: these numbers are its own, so no fact of the type.
 impl<C: Chip> Store<'_, C> {
-    ghost use Rattle.drive.specs.Stores.{Spent, Went};
+    ghost use Rattle.drive.specs.Stores.{Went};
 
     // Reads a page into the room, and the mark that it shows; none where the chip has no such page.
-    pub fn show(&mut self, block: u32, page: u32) -> Result<Option<Mark>, Gone>
+    pub fn show(&mut self, place: Address) -> Result<Option<Mark>, Gone>
         requires { 1 ≤ self.old.journal.now.asks }
         ensures { Went 1 result self.old self.new }
     {
         let shape = self.journal.shape;
-        if block >= shape.blocks || page >= shape.pages {
+        if place.block >= shape.blocks || place.page >= shape.pages {
             return Ok(None);
         }
         self.journal.asks -= 1;
-        let mark = read_mark(self.chip, self.room, block, page)?;
+        let mark = read_mark(self.chip, self.room, place)?;
         Ok(mark)
     }
 
     // The same of a page that should be a record.
-    pub fn show_record(&mut self, block: u32, page: u32) -> Result<Option<RecordMark>, Gone>
+    pub fn show_record(&mut self, place: Address) -> Result<Option<RecordMark>, Gone>
         requires { 1 ≤ self.old.journal.now.asks }
         ensures { Went 1 result self.old self.new }
     {
-        match self.show(block, page)? {
+        match self.show(place)? {
             Some(Mark::Record(record)) => Ok(Some(record)),
             _ => Ok(None),
         }

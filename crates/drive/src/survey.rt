@@ -1,8 +1,8 @@
 // Coming up, first part: what every block shows.
-ghost use Rattle.std.specs.Prelude.{◌≡◌, ℕ, ◌<◌, ◌≤◌};
+ghost use Rattle.std.specs.Prelude.{◌≡◌, ◌<◌, ◌≤◌};
 ghost use Rattle.drive.specs.Survey.{best_of};
 
-use crate::room::Standing;
+use crate::room::{Address, Standing};
 use crate::store::Store;
 use crate::{Chip, Gone};
 use record::marks::{HeaderMark, Mark};
@@ -70,16 +70,23 @@ impl<C: Chip> Store<'_, C> {
     {
         let number = header.number.number;
         self.note_block(block, number, Standing::Free);
-        let commit = u32::from(header.commit.index);
+        let commit = Address {
+            block,
+            page: u32::from(header.commit.index),
+        };
         let foreign = survey.foreign || !is_first(header);
-        if self.show_record(block, commit)?.is_none() {
+        if self.show_record(commit)?.is_none() {
             return Ok(Survey { foreign, ..survey });
         }
         let age = Age {
             bad: header.bad_blocks,
             number,
         };
-        let next = Candidate { block, age, commit };
+        let next = Candidate {
+            block,
+            age,
+            commit: commit.page,
+        };
         Ok(Survey {
             best: Some(better(survey.best, next)),
             foreign,
@@ -92,7 +99,7 @@ impl<C: Chip> Store<'_, C> {
         requires within { block < self.old.journal.now.shape.blocks }
         ensures { Went 2 result self.old self.new }
     {
-        match self.show(block, 0)? {
+        match self.show(Address { block, page: 0 })? {
             Some(Mark::Header(header)) => self.survey_header(block, header, survey),
             Some(Mark::Void(void)) => {
                 self.note_block(block, void.number.number, Standing::Free);

@@ -1,5 +1,5 @@
 // Coming up, second part: back over the log, newest first, to where each sector is.
-ghost use Rattle.std.specs.Prelude.{◌≡◌, ℕ, ◌<◌, ◌≤◌};
+ghost use Rattle.std.specs.Prelude.{◌<◌, ◌≤◌};
 
 use crate::room::{Address, PAGE, Standing};
 use crate::store::Store;
@@ -85,7 +85,7 @@ impl<C: Chip> Store<'_, C> {
         requires { 1 ≤ self.old.journal.now.asks }
         ensures { Went 1 result self.old self.new }
     {
-        if self.show(block, 0)?.is_none() {
+        if self.show(Address { block, page: 0 })?.is_none() {
             return Ok(None);
         }
         self.mend_page();

@@ -37,7 +37,7 @@ fn unpack(codes: &[u8], states: &mut [PageState])
     requires { length codes.now ≤ length states.old }
     ensures { StandFor (length codes.now) codes.now states.new }
 {
-    // by index: of elements that were written through `iter_mut` nothing is known afterwards
+    // by index: of elements that were written through a `zip` of `iter_mut` nothing is known afterwards
     for (k, code) in codes.iter().enumerate() {
         states[k] = Code(*code).into();
     }

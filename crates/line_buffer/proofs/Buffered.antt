@@ -1,5 +1,5 @@
 -- A line that comes byte by byte. Assumes nothing.
-use Rattle.std.proofs.Common.{◌≡◌, ℕ, ◌+◌, ◌^◌, ◌<◌, ◌≤◌, List, ◌++◌, length, Option, Some, None, [], ◌∷◌, Ok, Err, Result, OnOk, OnErr, IsOk, sym, refl, ap, ◌∙◌, subst, ⊎_elim, arith, length-append, length-take}
+use Rattle.std.proofs.Common.{◌≡◌, ℕ, ◌+◌, ◌^◌, ◌<◌, ◌≤◌, List, ◌++◌, length, take, Option, Some, None, [], ◌∷◌, Ok, Err, Result, OnOk, OnErr, IsOk, sym, refl, ap, ◌∙◌, subst, ⊎_elim, arith, length-append, length-take}
 use Rattle.std.proofs.lemmas.Bool.{cases_lt}
 use Rattle.std.proofs.lemmas.List.{take_all, take-append-le}
 use Rattle.std.proofs.lemmas.Fmt.{length-decimal-le}
@@ -16,6 +16,18 @@ pub kept_more : {E : Type 0} (r : Result (Unit {0}) E) (old new : ArrayVec ℕ) 
 kept_more (Ok u) old new b ok err full room = ok ∙ sym (take_all 41 (old.items ++ b ∷ []) (omega (arith, room refl, length-append old.items (b ∷ []))))
 kept_more (Err e) old new b ok err full room =
     ap (λ v. v.items) err ∙ sym (take-append-le 41 old.items (b ∷ []) (omega arith) ∙ take_all 41 old.items (omega arith))
+
+-- what is kept of a line stands for the line when one byte more comes
+pub kept_step : (s l : List ℕ) (b : ℕ) → s ≡ kept l → kept (s ++ b ∷ []) ≡ kept (l ++ b ∷ [])
+kept_step s l b e =
+    ⊎_elim (λ (p : 40 < length l).
+    let n : 41 ≤ length s = omega (arith, ap length e, length-take 41 l) in
+    take-append-le 41 s (b ∷ []) n ∙ ap (take 41) e ∙ take_twice l ∙ sym (take-append-le 41 l (b ∷ []) (omega arith)))
+    (λ (p : length l ≤ 40). ap (λ x. kept (x ++ b ∷ [])) (e ∙ take_all 41 l (omega arith)))
+    (cases_lt 40 (length l))
+  where
+    take_twice : (l : List ℕ) → take 41 (take 41 l) ≡ take 41 l
+    take_twice l = take_all 41 (take 41 l) (omega (arith, length-take 41 l))
 
 tag_short : (n : ℕ) → n < 256 → length (field_text n) ≤ 4
 tag_short n h = omega (arith, length-decimal-le 3 n (omega arith) (omega arith) (omega arith))

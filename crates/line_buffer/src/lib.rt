@@ -34,14 +34,14 @@ impl LineBuffer {
 
     // One byte more, where there is room.
     pub fn push(&mut self, b: u8)
-        ensures { self.new ≡ kept (self.old ++ b ∷ []) }
+        ensures { (l : List ℕ) → self.old ≡ kept l → self.new ≡ kept (l ++ b ∷ []) }
     {
         let _ = self.bytes.try_push(b);
     }
 
     // Whether no byte has come.
     pub fn is_empty(&self) -> bool
-        ensures { result ≡ (length self.now == 0) }
+        ensures { (l : List ℕ) → self.now ≡ kept l → result ≡ (length l == 0) }
     {
         self.bytes.is_empty()
     }

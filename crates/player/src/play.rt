@@ -62,7 +62,7 @@ impl Player<'_, MemoryChip<'_>> {
     {
         let mut number: u64 = 0;
         let mut at = 0;
-        // `next_line` is what the theorem on lines speaks of; `split` has one line more behind a last line feed
+        // by `next_line`, since of it the theorem on lines speaks, and what is proved of lines is to hold of those that are played
         while let Some(line) = next_line(script, at) {
             if self.is_over() {
                 break;

@@ -34,7 +34,7 @@ use Rattle.record.specs.contracts.headers.Predecessor as pred
 use Rattle.record.specs.contracts.headers.HeaderData as head
 use Rattle.record.specs.Decoding.{Distinct}
 use Rattle.record.specs.Headers.{joined, data_fields, header_bytes, content_bytes}
-use Rattle.record.specs.Contents.{code_of, flag_of, seal_flag_of, tag_of}
+use Rattle.record.specs.Contents.{flag_of, seal_flag_of, tag_of}
 use Rattle.record.specs.Marks.{block_field, fields_of, bytes_of}
 use Rattle.record.proofs.MarkBytes.{fields_same, tags_same}
 use Rattle.record.proofs.HeaderBytes.{header_fields_same}
@@ -63,8 +63,8 @@ seal_same Flush Recovery e = absurd (omega arith)
 seal_same Recovery Flush e = absurd (omega arith)
 seal_same Recovery Recovery e = refl
 
-kind : {s t : Tag} → s ≡ t → code_of s.kind ≡ code_of t.kind
-kind e = ap (λ (x : Tag). code_of x.kind) e
+kind : {s t : Tag} → s ≡ t → s.kind ≡ t.kind
+kind e = ap (λ (x : Tag). x.kind) e
 
 flag : {s t : Tag} → s ≡ t → s.flag ≡ t.flag
 flag e = ap (λ (x : Tag). x.flag) e
@@ -84,7 +84,7 @@ content_same (Seal o) (Table p t) e = absurd (omega (arith, kind e))
 content_same (Seal o) (Seal p) e = ap Seal (seal_same o p (flag e))
 
 -- a record's kind is neither that of a header nor that of a void
-record_kind : (c : Content) → (code_of (tag_of c).kind ≡ 1 → ⊥) × (code_of (tag_of c).kind ≡ 5 → ⊥)
+record_kind : (c : Content) → ((tag_of c).kind ≡ 1 → ⊥) × ((tag_of c).kind ≡ 5 → ⊥)
 record_kind (Data o s) = (λ e. omega arith, λ e. omega arith)
 record_kind (Table o s) = (λ e. omega arith, λ e. omega arith)
 record_kind (Seal o) = (λ e. omega arith, λ e. omega arith)

@@ -1,54 +1,28 @@
 -- The bytes of a mark. Assumes nothing.
-use Rattle.std.proofs.Common.{◌≡◌, ℕ, zero, suc, ◌<◌, List, [], ◌∷◌, ◌++◌, length, get_or, take, drop, sym, refl, ap, ◌∙◌, append_assoc, arith, length-append}
+use Rattle.std.proofs.Common.{◌≡◌, ℕ, ◌<◌, List, [], ◌∷◌, ◌++◌, length, get_or, take, drop, sym, refl, ap, ◌∙◌, append_assoc, arith, length-append}
 use denote.Struct.Record.{values_one}
 use Rattle.std.proofs.lemmas.List.{take_at, drop_at, drop_more, append-nil, drop_all, take_all, take-append-drop}
 use Rattle.words.specs.Words.{little, value_at}
 use Rattle.words.proofs.Words.{little-same, length-little}
-use Rattle.record.specs.declared.tags.Kind.{Kind}
-use Rattle.record.specs.declared.tags.Kind.TheVariants.{Header, Data, Table, Seal, Void}
 use Rattle.record.specs.declared.tags.Tag.{Tag}
 use Rattle.record.specs.declared.tags.Fields.{Fields}
 use Rattle.record.specs.contracts.tags.Tag as tag
 use Rattle.record.specs.contracts.tags.Fields as fields
-use Rattle.record.specs.Contents.{code_of}
 use Rattle.record.specs.Marks.{tag_bytes, field_bytes}
 use Rattle.record.proofs.Rows.{first, peel}
-
--- ---- kinds
-
--- the kind with a number
-abbrev kind_at : ℕ → Kind
-kind_at zero = Header
-kind_at (suc zero) = Header
-kind_at (suc (suc zero)) = Data
-kind_at (suc (suc (suc zero))) = Table
-kind_at (suc (suc (suc (suc zero)))) = Seal
-kind_at (suc (suc (suc (suc (suc n))))) = Void
-
--- it gives back each kind
-kind_at-code_of : (k : Kind) → kind_at (code_of k) ≡ k
-kind_at-code_of Header = refl
-kind_at-code_of Data = refl
-kind_at-code_of Table = refl
-kind_at-code_of Seal = refl
-kind_at-code_of Void = refl
-
--- no two kinds have the same number
-kinds_same : (k l : Kind) → code_of k ≡ code_of l → k ≡ l
-kinds_same k l e = sym (kind_at-code_of k) ∙ ap kind_at e ∙ kind_at-code_of l
 
 -- ---- tags
 
 pub tags_same : (s t : Tag) → tag_bytes s ≡ tag_bytes t → s ≡ t
 unfolding tag_bytes
 tags_same s t e =
-    let k = kinds_same s.kind t.kind (ap (λ (xs : List ℕ). get_or xs 0 0) e) in
+    let k : s.kind ≡ t.kind = ap (λ (xs : List ℕ). get_or xs 0 0) e in
     let l : s.flag ≡ t.flag = ap (λ (xs : List ℕ). get_or xs 1 0) e in
     let c = first 1 s.commit t.commit (little 4 s.place) (little 4 t.place) (ap (drop 2) e) in
     let p = little-same 3 s.place t.place c.1 in
     values_one tag.struct tag.the_propositions s t (cc c.0)
 
-pub tag_read : (xs : List ℕ) (t : Tag) → ((k : ℕ) → get_or xs k 0 < 256) → length xs ≡ 8 → code_of t.kind ≡ get_or xs 0 0 → t.flag ≡ get_or xs 1 0 → t.commit ≡ value_at 2 xs 2 → t.place ≡ value_at 4 xs 4
+pub tag_read : (xs : List ℕ) (t : Tag) → ((k : ℕ) → get_or xs k 0 < 256) → length xs ≡ 8 → t.kind ≡ get_or xs 0 0 → t.flag ≡ get_or xs 1 0 → t.commit ≡ value_at 2 xs 2 → t.place ≡ value_at 4 xs 4
     → xs ≡ tag_bytes t
 unfolding tag_bytes
 tag_read xs t low l ek ef ec ep =
@@ -60,17 +34,12 @@ tag_read xs t low l ek ef ec ep =
     let z = append-nil (little 4 t.place) in
     cc
 
--- bytes whose first is no kind are no tag's
-pub no_tag : (xs : List ℕ) → ((k : Kind) → get_or xs 0 0 ≡ code_of k → ⊥) → (t : Tag) → xs ≡ tag_bytes t → ⊥
-unfolding tag_bytes
-no_tag xs none t e = none t.kind (ap (λ (x : List ℕ). get_or x 0 0) e)
-
-pub tag_written : (t : Tag) (o p q : List ℕ) → length q ≡ 8 → take 2 o ≡ code_of t.kind ∷ t.flag ∷ [] → take 4 p ≡ take 2 o ++ little 2 t.commit → take 8 q ≡ take 4 p ++ little 4 t.place
+pub tag_written : (t : Tag) (o p q : List ℕ) → length q ≡ 8 → take 2 o ≡ t.kind ∷ t.flag ∷ [] → take 4 p ≡ take 2 o ++ little 2 t.commit → take 8 q ≡ take 4 p ++ little 4 t.place
     → q ≡ tag_bytes t
 unfolding tag_bytes
 tag_written t o p q l eo ep eq =
     let a = take_all 8 q (omega arith) in
-    let all : q ≡ ((code_of t.kind ∷ t.flag ∷ []) ++ little 2 t.commit) ++ little 4 t.place = cc in
+    let all : q ≡ ((t.kind ∷ t.flag ∷ []) ++ little 2 t.commit) ++ little 4 t.place = cc in
     all ∙ simp append_assoc
 
 pub length_tag : (t : Tag) → length (tag_bytes t) ≡ 8
@@ -106,11 +75,6 @@ fields_read xs f low l eg en et eb ev =
     let j = drop_all 32 xs (omega arith) in
     let z = append-nil (little 4 f.version) in
     cc
-
--- bytes that don't begin with a tag are those of no fields
-pub no_fields : (xs : List ℕ) → ((t : Tag) → take 8 xs ≡ tag_bytes t → ⊥) → (f : Fields) → xs ≡ field_bytes f → ⊥
-unfolding field_bytes
-no_fields xs none f e = none f.tag (ap (take 8) e ∙ take_at (tag_bytes f.tag) _ 8 (length_tag f.tag))
 
 pub fields_written : (f : Fields) (o p q r s : List ℕ) → length s ≡ 32 → take 8 o ≡ tag_bytes f.tag
     → take 16 p ≡ take 8 o ++ little 8 f.number → take 24 q ≡ take 16 p ++ little 8 f.tail → take 28 r ≡ take 24 q ++ little 4 f.bad_blocks → take 32 s ≡ take 28 r ++ little 4 f.version

@@ -11,6 +11,7 @@ use Rattle.record.specs.declared.marks.Mark.{Mark}
 use Rattle.record.specs.declared.marks.Mark.TheVariants.{Header, Record, Void}
 use Rattle.record.specs.declared.headers.Predecessor.{Predecessor}
 use Rattle.record.specs.declared.headers.HeaderData.{HeaderData}
+use Rattle.record.specs.declared.tags.Kind.{Kind}
 use Rattle.record.specs.declared.tags.Kind.TheVariants as kind
 use Rattle.record.specs.declared.tags.Tag.{Tag}
 use Rattle.record.specs.declared.tags.Fields.{Fields}
@@ -25,32 +26,43 @@ no_block n none range (Some b) e = range b e
 no_block n none range None e = none e
 
 -- tags that are the same have the same kind
-code : {s t : Tag} → s ≡ t → code_of s.kind ≡ code_of t.kind
-code e = ap (λ (x : Tag). code_of x.kind) e
+code : {s t : Tag} → s ≡ t → s.kind ≡ t.kind
+code e = ap (λ (x : Tag). x.kind) e
+
+-- no kind has the number
+pub no_kind : (t : Tag) → ((k : Kind) → t.kind ≡ code_of k → ⊥) → (c : Content) → t ≡ tag_of c → ⊥
+no_kind t none (Data o s) e = none kind.Data (code e)
+no_kind t none (Table o p) e = none kind.Table (code e)
+no_kind t none (Seal o) e = none kind.Seal (code e)
+
+pub no_mark : (f : Fields) → ((k : Kind) → f.tag.kind ≡ code_of k → ⊥) → (m : Mark) → f ≡ fields_of m → ⊥
+no_mark f none (Header h) e = none kind.Header (ap (λ (x : Fields). x.tag.kind) e)
+no_mark f none (Record r) e = no_kind f.tag none r.content (ap (λ (x : Fields). x.tag) e)
+no_mark f none (Void v) e = none kind.Void (ap (λ (x : Fields). x.tag.kind) e)
 
 -- no sector has the place
-pub no_sector : (t : Tag) → t.kind ≡ kind.Data → ((s : SectorNumber) → t.place ≡ s.number → ⊥) → (c : Content) → t ≡ tag_of c → ⊥
+pub no_sector : (t : Tag) → t.kind ≡ code_of kind.Data → ((s : SectorNumber) → t.place ≡ s.number → ⊥) → (c : Content) → t ≡ tag_of c → ⊥
 no_sector t k range (Data o s) e = range s (ap (λ (x : Tag). x.place) e)
-no_sector t k range (Table o p) e = absurd (omega (arith, code e, ap code_of k))
-no_sector t k range (Seal o) e = absurd (omega (arith, code e, ap code_of k))
+no_sector t k range (Table o p) e = absurd (omega (arith, code e, k))
+no_sector t k range (Seal o) e = absurd (omega (arith, code e, k))
 
 -- no page of the table has the place
-pub no_table : (t : Tag) → t.kind ≡ kind.Table → ((p : TableNumber) → t.place ≡ p.number → ⊥) → (c : Content) → t ≡ tag_of c → ⊥
-no_table t k range (Data o s) e = absurd (omega (arith, code e, ap code_of k))
+pub no_table : (t : Tag) → t.kind ≡ code_of kind.Table → ((p : TableNumber) → t.place ≡ p.number → ⊥) → (c : Content) → t ≡ tag_of c → ⊥
+no_table t k range (Data o s) e = absurd (omega (arith, code e, k))
 no_table t k range (Table o p) e = range p (ap (λ (x : Tag). x.place) e)
-no_table t k range (Seal o) e = absurd (omega (arith, code e, ap code_of k))
+no_table t k range (Seal o) e = absurd (omega (arith, code e, k))
 
 -- a record's kind isn't that of a header
-record_kind : (c : Content) → code_of (tag_of c).kind ≡ 1 → ⊥
+record_kind : (c : Content) → (tag_of c).kind ≡ 1 → ⊥
 record_kind (Data o s) e = omega arith
 record_kind (Table o p) e = omega arith
 record_kind (Seal o) e = omega arith
 
 -- no page of a block is the one that commits the header
-pub no_commit : (f : Fields) → f.tag.kind ≡ kind.Header → ((p : PageIndex) → f.tag.commit ≡ p.index → ⊥) → (m : Mark) → f ≡ fields_of m → ⊥
+pub no_commit : (f : Fields) → f.tag.kind ≡ code_of kind.Header → ((p : PageIndex) → f.tag.commit ≡ p.index → ⊥) → (m : Mark) → f ≡ fields_of m → ⊥
 no_commit f k range (Header h) e = range h.commit (ap (λ (x : Fields). x.tag.commit) e)
-no_commit f k range (Record r) e = absurd (record_kind r.content (sym (ap (λ (x : Fields). code_of x.tag.kind) e) ∙ ap code_of k))
-no_commit f k range (Void v) e = absurd (omega (arith, ap (λ (x : Fields). code_of x.tag.kind) e, ap code_of k))
+no_commit f k range (Record r) e = absurd (record_kind r.content (sym (ap (λ (x : Fields). x.tag.kind) e) ∙ k))
+no_commit f k range (Void v) e = absurd (omega (arith, ap (λ (x : Fields). x.tag.kind) e, k))
 
 -- neither none nor a block is the predecessor
 joined_block : (h : HeaderData) (p : Option Predecessor) (n : ℕ) → ((o : Option BlockIndex) → n ≡ block_field o → ⊥) → n ≡ (joined h p).block → ⊥

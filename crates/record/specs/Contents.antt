@@ -30,10 +30,10 @@ seal_flag_of Recovery = 2
 
 -- a kind, and nothing else
 abbrev pub bare : Kind → Tag
-bare k = record { kind = k; flag = 0; commit = 0; place = 0 }
+bare k = record { kind = code_of k; flag = 0; commit = 0; place = 0 }
 
 -- kind, flag, and the sector or the page of the table
 abbrev pub tag_of : Content → Tag
-tag_of (Data o s) = record { kind = kind.Data; flag = flag_of o; commit = 0; place = s.number }
-tag_of (Table o p) = record { kind = kind.Table; flag = flag_of o; commit = 0; place = p.number }
-tag_of (Seal o) = record { kind = kind.Seal; flag = seal_flag_of o; commit = 0; place = 0 }
+tag_of (Data o s) = record { kind = code_of kind.Data; flag = flag_of o; commit = 0; place = s.number }
+tag_of (Table o p) = record { kind = code_of kind.Table; flag = flag_of o; commit = 0; place = p.number }
+tag_of (Seal o) = record { kind = code_of kind.Seal; flag = seal_flag_of o; commit = 0; place = 0 }

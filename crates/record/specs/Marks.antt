@@ -19,7 +19,7 @@ block_field None = 0xffff_ffff
 
 -- the fields of each kind of mark
 abbrev pub header_fields : HeaderMark → Fields
-header_fields h = record { tag = record { kind = kind.Header; flag = 0; commit = h.commit.index; place = block_field h.predecessor }; number = h.number.number; tail = h.tail.index; bad_blocks = h.bad_blocks; version = 1 }
+header_fields h = record { tag = record { kind = code_of kind.Header; flag = 0; commit = h.commit.index; place = block_field h.predecessor }; number = h.number.number; tail = h.tail.index; bad_blocks = h.bad_blocks; version = 1 }
 
 abbrev pub record_fields : RecordMark → Fields
 record_fields r = record { tag = tag_of r.content; number = r.index.index; tail = r.tail.index; bad_blocks = 0; version = 1 }
@@ -34,7 +34,7 @@ fields_of (Void v) = void_fields v
 
 -- the fields at 0, 1, 2 and 4
 unfoldable pub tag_bytes : Tag → List ℕ
-tag_bytes t = code_of t.kind ∷ t.flag ∷ (little 2 t.commit ++ little 4 t.place)
+tag_bytes t = t.kind ∷ t.flag ∷ (little 2 t.commit ++ little 4 t.place)
 
 -- the tag, and the fields at 8, 16, 24 and 28
 unfoldable pub field_bytes : Fields → List ℕ

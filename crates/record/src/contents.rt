@@ -64,31 +64,40 @@ impl TryFrom<Tag> for Content {
     ghost try_from_gives = { λ t r. Decoded tag_of t r };
 
     fn try_from(tag: Tag) -> Result<Content, Malformed> {
-        match tag {
-            Tag {
-                kind: Kind::Data,
-                flag,
-                commit: 0,
-                place,
-            } => Ok(Content::Data {
+        match (Kind::try_from(tag.kind)?, tag) {
+            (
+                Kind::Data,
+                Tag {
+                    flag,
+                    commit: 0,
+                    place,
+                    ..
+                },
+            ) => Ok(Content::Data {
                 origin: flag.try_into()?,
                 sector: place.try_into()?,
             }),
-            Tag {
-                kind: Kind::Table,
-                flag,
-                commit: 0,
-                place,
-            } => Ok(Content::Table {
+            (
+                Kind::Table,
+                Tag {
+                    flag,
+                    commit: 0,
+                    place,
+                    ..
+                },
+            ) => Ok(Content::Table {
                 origin: flag.try_into()?,
                 page: place.try_into()?,
             }),
-            Tag {
-                kind: Kind::Seal,
-                flag,
-                commit: 0,
-                place: 0,
-            } => Ok(Content::Seal {
+            (
+                Kind::Seal,
+                Tag {
+                    flag,
+                    commit: 0,
+                    place: 0,
+                    ..
+                },
+            ) => Ok(Content::Seal {
                 origin: flag.try_into()?,
             }),
             _ => Err(Malformed),

@@ -55,6 +55,7 @@ impl TryFrom<HeaderFields> for HeaderData {
     }
 }
 
+// Writes the 40 bytes.
 fn write_fields(f: HeaderFields, out: &mut [u8])
     requires { length out.old ≡ 40 }
     ensures { out.new ≡ header_field_bytes f }
@@ -67,6 +68,7 @@ fn write_fields(f: HeaderFields, out: &mut [u8])
     write(out, 36, f.records);
 }
 
+// The fields that have these bytes.
 fn read_fields(bytes: &[u8]) -> HeaderFields
     requires { length bytes.now ≡ 40 }
     ensures { bytes.now ≡ header_field_bytes result }
@@ -115,5 +117,5 @@ pub fn read_entry(page: &[u8], i: usize) -> Result<Content, Malformed>
     ensures { Decoded content_bytes (entry_at page.now i) result }
 {
     let at = 40 + 8 * i;
-    Content::try_from(read_tag(&page[at..at + 8])?)
+    Content::try_from(read_tag(&page[at..at + 8]))
 }

@@ -10,7 +10,7 @@ use crate::numbers::{BlockIndex, BlockNumber, RecordIndex};
 use crate::tags::{Fields, Kind, Tag};
 use words::{read, write};
 
-// Stands for no block.
+// Stands for no block on the chip, by its layout; only the next two functions know it.
 const NO_BLOCK: u32 = 0xffff_ffff;
 // What each mark has at its end.
 const VERSION: u32 = 1;
@@ -80,13 +80,14 @@ impl TryFrom<Fields> for Mark {
             return Err(Malformed);
         }
         let tail = RecordIndex { index: f.tail };
-        match (f.tag, f.bad_blocks) {
+        match (Kind::try_from(f.tag.kind)?, f.tag, f.bad_blocks) {
             (
+                Kind::Header,
                 Tag {
-                    kind: Kind::Header,
                     flag: 0,
                     commit,
                     place,
+                    ..
                 },
                 bad_blocks,
             ) => Ok(Mark::Header(HeaderMark {
@@ -96,11 +97,11 @@ impl TryFrom<Fields> for Mark {
                 tail,
                 bad_blocks,
             })),
-            (tag, 0) if tag == Tag::bare(Kind::Void) => Ok(Mark::Void(VoidMark {
+            (Kind::Void, tag, 0) if tag == Tag::bare(Kind::Void) => Ok(Mark::Void(VoidMark {
                 number: BlockNumber { number: f.number },
                 tail,
             })),
-            (tag, 0) => Ok(Mark::Record(RecordMark {
+            (_, tag, 0) => Ok(Mark::Record(RecordMark {
                 content: tag.try_into()?,
                 index: RecordIndex { index: f.number },
                 tail,
@@ -115,23 +116,23 @@ pub fn write_tag(tag: Tag, out: &mut [u8])
     requires { length out.old ≡ 8 }
     ensures { out.new ≡ tag_bytes tag }
 {
-    out[0] = tag.kind as u8;
+    out[0] = tag.kind;
     out[1] = tag.flag;
     write(out, 2, tag.commit);
     write(out, 4, tag.place);
 }
 
 // The tag that has these bytes.
-pub fn read_tag(bytes: &[u8]) -> Result<Tag, Malformed>
+pub fn read_tag(bytes: &[u8]) -> Tag
     requires { length bytes.now ≡ 8 }
-    ensures { Decoded tag_bytes bytes.now result }
+    ensures { bytes.now ≡ tag_bytes result }
 {
-    Ok(Tag {
-        kind: bytes[0].try_into()?,
+    Tag {
+        kind: bytes[0],
         flag: bytes[1],
         commit: read(bytes, 2),
         place: read(bytes, 4),
-    })
+    }
 }
 
 fn write_fields(f: Fields, out: &mut [u8; 32])
@@ -144,16 +145,16 @@ fn write_fields(f: Fields, out: &mut [u8; 32])
     write(out, 28, f.version);
 }
 
-fn read_fields(bytes: &[u8; 32]) -> Result<Fields, Malformed>
-    ensures { Decoded field_bytes bytes.now result }
+fn read_fields(bytes: &[u8; 32]) -> Fields
+    ensures { bytes.now ≡ field_bytes result }
 {
-    Ok(Fields {
-        tag: read_tag(&bytes[0..8])?,
+    Fields {
+        tag: read_tag(&bytes[0..8]),
         number: read(bytes, 8),
         tail: read(bytes, 16),
         bad_blocks: read(bytes, 24),
         version: read(bytes, 28),
-    })
+    }
 }
 
 // Writes the bytes of a mark.
@@ -167,5 +168,5 @@ pub fn to_bytes(mark: Mark, out: &mut [u8; 32])
 pub fn from_bytes(bytes: &[u8; 32]) -> Result<Mark, Malformed>
     ensures { Decoded bytes_of bytes.now result }
 {
-    Mark::try_from(read_fields(bytes)?)
+    Mark::try_from(read_fields(bytes))
 }

@@ -1,5 +1,5 @@
 // Numbers that say what they count, with their ranges.
-// Each is a type of its own: one generic type with the limit as its parameter would make a page's index and a count of records the same.
+// Each is a type of its own with a field that says what it counts: of one generic type over the limit two with the same limit would be the same.
 ghost use Rattle.std.specs.Prelude.{◌<◌};
 ghost use Rattle.record.specs.Decoding.{Decoded};
 

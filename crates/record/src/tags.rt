@@ -35,7 +35,7 @@ impl TryFrom<u8> for Kind {
 // The first 8 bytes of a mark.
 #[derive(Clone, Copy, PartialEq, Eq)]
 pub struct Tag {
-    pub kind: Kind,
+    pub kind: u8,
     pub flag: u8,
     pub commit: u16,
     pub place: u32,
@@ -47,7 +47,7 @@ impl Tag {
         ensures { result ≡ bare kind }
     {
         Tag {
-            kind,
+            kind: kind as u8,
             flag: 0,
             commit: 0,
             place: 0,

@@ -7,11 +7,11 @@ ghost use Rattle.refusals.specs.Refusals.{number, answered, has, outside, refusa
 // Why a command is turned away.
 #[derive(Clone, Copy, PartialEq, Eq, Debug)]
 pub enum Refusal {
-    Tag,
-    Count,
-    Range,
-    WornOut,
-    NotBuilt,
+    Tag = 1,
+    Count = 2,
+    Range = 3,
+    WornOut = 4,
+    NotBuilt = 5,
 }
 
 // The number that whoever asks is told.
@@ -19,13 +19,7 @@ impl From<Refusal> for u8 {
     ghost from_gives = { λ why n. n ≡ number why };
 
     fn from(why: Refusal) -> u8 {
-        match why {
-            Refusal::Tag => 1,
-            Refusal::Count => 2,
-            Refusal::Range => 3,
-            Refusal::WornOut => 4,
-            Refusal::NotBuilt => 5,
-        }
+        why as u8
     }
 }
 

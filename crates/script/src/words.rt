@@ -52,7 +52,7 @@ fn is_plain(digits: &[u8]) -> bool
     !matches!(digits, [] | [b'0', _, ..])
 }
 
-// The number that digits write, if it is below 2^32.
+// The number that digits write, if it is below 2^32. By hand, since `parse` is of `str`, and `from_utf8` would have to be told that digits are text.
 fn digits_value(digits: &[u8]) -> Option<u32>
     requires { AllDigits 10 digits.now }
     ensures { SomeIff result (number_of 10 digits.now < 2 ^ 32) (number_of 10 digits.now) }
