@@ -1,4 +1,4 @@
--- The states of pages as bytes, as Rust lends them.
+-- The states of pages as bytes, as C lends them.
 use Rattle.std.specs.Prelude.{◌≡◌, ℕ, ◌<◌, cond, List, ◌==◌, slice_index, slice_index_or}
 use Rattle.bench.specs.declared.memory.PageState.{PageState}
 use Rattle.bench.specs.declared.memory.PageState.TheVariants as state

