@@ -134,11 +134,11 @@ impl Chip for MemoryChip<'_> {
             return Answer::Dark;
         }
         if self.tricks.goes() {
-            self.tricks.counts.reads.note(Answer::Dark);
+            self.tricks.counts.add_read(Answer::Dark);
             self.read_dark(into);
             return Answer::Dark;
         }
-        self.tricks.counts.reads.note(Answer::Fine);
+        self.tricks.counts.add_read(Answer::Fine);
         let state = self.store.fetch(block, page, into);
         self.tricks.show(state, block, into);
         self.tricks.turn(into);
@@ -154,7 +154,7 @@ impl Chip for MemoryChip<'_> {
         }
         let cell = self.store.cell(block);
         let answer = self.outcome(cell);
-        self.tricks.counts.programs.note(answer);
+        self.tricks.counts.add_program(answer);
         self.store.program(block, page, from, answer);
         answer
     }
@@ -167,7 +167,7 @@ impl Chip for MemoryChip<'_> {
         }
         let cell = self.store.cell(block);
         let answer = self.erase_outcome(cell);
-        self.tricks.counts.erasings.note(answer);
+        self.tricks.counts.add_erasing(answer);
         self.store.erase(block, answer);
         answer
     }

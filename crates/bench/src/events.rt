@@ -72,6 +72,27 @@ pub struct Counts {
 }
 
 impl Counts {
+    // A reading that was answered so.
+    pub fn add_read(&mut self, answer: Answer)
+        ensures { self.new ≡ record self.old { reads = noted answer self.old.reads } }
+    {
+        self.reads.note(answer);
+    }
+
+    // A programming that was answered so.
+    pub fn add_program(&mut self, answer: Answer)
+        ensures { self.new ≡ record self.old { programs = noted answer self.old.programs } }
+    {
+        self.programs.note(answer);
+    }
+
+    // An erasing that was answered so.
+    pub fn add_erasing(&mut self, answer: Answer)
+        ensures { self.new ≡ record self.old { erasings = noted answer self.old.erasings } }
+    {
+        self.erasings.note(answer);
+    }
+
     // So many asks are allowed from here on; of those allowed before so many are left.
     pub fn allow(&mut self, asks: u64, left: u64)
         ensures turn { self.new.most_turn ≡ (if nat_le self.old.allowed 64 then max self.old.most_turn (self.old.allowed - left) else self.old.most_turn) }

@@ -76,7 +76,7 @@ impl Tricks {
         match (self.mode, self.odds) {
             (Mode::Plain, _) | (_, None) => false,
             (Mode::Random { .. } | Mode::Adversarial { .. }, Some(odds)) => {
-                self.generator.next().is_multiple_of(odds)
+                odds != 0 && self.generator.next().is_multiple_of(odds)
             }
         }
     }

@@ -21,6 +21,16 @@ pub record Spent {C : Type 0} {c : Ghosts C} (k : ℕ) (s t : Store C c) : Type 
   pub most : s.journal.now.asks ≤ t.journal.now.asks + k
   pub least : t.journal.now.asks ≤ s.journal.now.asks
 
+-- only the room was written: the chip and the journal are as they were
+pub record Wrote {C : Type 0} {c : Ghosts C} (s t : Store C c) : Type 0 where
+  pub chip : t.chip.now ≡ s.chip.now
+  pub journal : t.journal.now ≡ s.journal.now
+
+-- something was noted in room and journal: the chip is as it was, and the head
+pub record Noted {C : Type 0} {c : Ghosts C} (s t : Store C c) : Type 0 where
+  pub chip : t.chip.now ≡ s.chip.now
+  pub head : t.journal.now.head ≡ s.journal.now.head
+
 -- after at most k asks; where that failed, the power has gone
 abbrev pub Went : {C : Type 0} {c : Ghosts C} {A : Type 0} → ℕ → Result A Gone → Store C c → Store C c → Type 0
 Went {c = c} k r s t = Spent k s t × (is_ok r ≡ false → (c.nand t.chip.now).on ≡ false)

@@ -11,11 +11,12 @@ use record::marks::{Content, HeaderMark, Mark, RecordMark};
 use record::numbers::{BlockNumber, PageIndex, RecordIndex};
 
 impl<C: Chip> Store<'_, C> {
-    ghost use Rattle.drive.specs.Stores.{Spent};
+    ghost use Rattle.drive.specs.Stores.{Spent, Wrote, Noted};
 
     // Makes the header of a successor, in the room.
     pub fn make_header(&mut self, commit: PageIndex)
-        ensures { Spent 0 self.old self.new }
+        ensures spent { Spent 0 self.old self.new }
+        ensures wrote { Wrote self.old self.new }
     {
         let predecessor = self.journal.predecessor();
         let tail = RecordIndex {
@@ -46,7 +47,8 @@ impl<C: Chip> Store<'_, C> {
 
     // Makes the next record of the page in the room.
     pub fn make_record(&mut self, content: Content)
-        ensures { Spent 0 self.old self.new }
+        ensures spent { Spent 0 self.old self.new }
+        ensures wrote { Wrote self.old self.new }
     {
         let record = RecordMark {
             content,
@@ -63,7 +65,8 @@ impl<C: Chip> Store<'_, C> {
     // Seals a page of the room under a mark.
     pub fn seal_at(&mut self, at: usize, mark: Mark)
         requires { at ≤ 266496 }
-        ensures { Spent 0 self.old self.new }
+        ensures spent { Spent 0 self.old self.new }
+        ensures wrote { Wrote self.old self.new }
     {
         let mut bytes = [0u8; 32];
         to_bytes(mark, &mut bytes);
@@ -80,7 +83,8 @@ impl<C: Chip> Store<'_, C> {
 
     // Lets go of the oldest block of the log if all of its records are older than a tail; whether it did.
     fn release_oldest(&mut self, tail: u64) -> bool
-        ensures { Spent 0 self.old self.new }
+        ensures spent { Spent 0 self.old self.new }
+        ensures noted { Noted self.old self.new }
     {
         let block = self.journal.oldest;
         let next = self.successor_of(block);
@@ -97,7 +101,8 @@ impl<C: Chip> Store<'_, C> {
 
     // Lets go of what no look needs once the newest block has a successor.
     pub fn release(&mut self)
-        ensures { Spent 0 self.old self.new }
+        ensures spent { Spent 0 self.old self.new }
+        ensures noted { Noted self.old self.new }
     {
         let keep = self.journal.keep();
         for _ in 0..self.journal.shape.blocks {
@@ -110,7 +115,8 @@ impl<C: Chip> Store<'_, C> {
     // Notes that a block, whose header and first record were programmed, is the newest of the log.
     pub fn adopt(&mut self, block: u32)
         requires { block < self.old.journal.now.shape.blocks }
-        ensures { Spent 0 self.old self.new }
+        ensures spent { Spent 0 self.old self.new }
+        ensures noted { Noted self.old self.new }
     {
         let first = self.journal.next_index();
         let number = self.journal.highest;
@@ -124,7 +130,8 @@ impl<C: Chip> Store<'_, C> {
     // Links a new block to the newest one, if that is kept.
     fn link(&mut self, block: u32)
         requires { block < self.old.journal.now.shape.blocks }
-        ensures { Spent 0 self.old self.new }
+        ensures spent { Spent 0 self.old self.new }
+        ensures noted { Noted self.old self.new }
     {
         let newest = self.journal.block;
         if self.journal.count == 0 || self.is_free(newest) {
@@ -136,7 +143,8 @@ impl<C: Chip> Store<'_, C> {
 
     // Notes a record that was programmed behind the others of the newest block.
     pub fn note_record(&mut self, content: Content)
-        ensures { Spent 0 self.old self.new }
+        ensures spent { Spent 0 self.old self.new }
+        ensures noted { Noted self.old self.new }
     {
         self.list_record(content);
         self.journal.note_tail(content);
@@ -144,7 +152,8 @@ impl<C: Chip> Store<'_, C> {
 
     // Puts it on the newest block's list, which its successor's header will have.
     fn list_record(&mut self, content: Content)
-        ensures { Spent 0 self.old self.new }
+        ensures spent { Spent 0 self.old self.new }
+        ensures noted { Noted self.old self.new }
     {
         let count = self.journal.count;
         if count >= 255 {

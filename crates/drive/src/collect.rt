@@ -14,22 +14,23 @@ use record::numbers::PageIndex;
 
 // The tail and the places.
 impl<C: Chip> Store<'_, C> {
-    ghost use Rattle.drive.specs.Stores.{Spent};
+    ghost use Rattle.drive.specs.Stores.{Spent, Wrote, Noted};
 
-    // Where the oldest record is, if it is one of its block's.
-    fn tail_place(&self) -> Option<Address> {
+    // Where the oldest record is; the first page of its block, which is no record's, if it is none of them.
+    fn tail_place(&self) -> Address
+        ensures { result.page < 256 }
+    {
         let block = self.journal.tail_block;
         let offset = self.journal.tail.saturating_sub(self.first_of(block));
-        if offset >= 255 {
-            return None;
-        }
-        let page = offset as u32 + 1;
-        Some(Address { block, page })
+        let page = if offset < 255 { offset as u32 + 1 } else { 0 };
+        Address { block, page }
     }
 
     // The tail moves on by one record, and to the next block where that was the block's last.
     fn pass(&mut self)
-        ensures { Spent 0 self.old self.new }
+        ensures spent { Spent 0 self.old self.new }
+        ensures noted { Noted self.old self.new }
+        ensures room { self.new.room.now ≡ self.old.room.now }
     {
         self.journal.tail = self.journal.tail.saturating_add(1);
         let block = self.journal.tail_block;
@@ -56,7 +57,8 @@ impl<C: Chip> Store<'_, C> {
 
     // Notes that a sector is where the newest record is.
     pub fn note_place(&mut self, sector: u32)
-        ensures { Spent 0 self.old self.new }
+        ensures spent { Spent 0 self.old self.new }
+        ensures wrote { Wrote self.old self.new }
     {
         if sector < self.journal.shape.total {
             let newest = Address {
@@ -72,13 +74,13 @@ impl<C: Chip> Store<'_, C> {
         let Content::Data { sector, .. } = content else {
             return false;
         };
-        let place = self.find(sector.number);
-        place.is_some() && place == self.tail_place()
+        self.find(sector.number) == Some(self.tail_place())
     }
 
     // Mends the data of the page in the room.
     pub fn mend_page(&mut self)
-        ensures { Spent 0 self.old self.new }
+        ensures spent { Spent 0 self.old self.new }
+        ensures wrote { Wrote self.old self.new }
     {
         codec::unseal(&mut self.room[PAGE..LIST]);
     }
@@ -92,9 +94,7 @@ impl<C: Chip> Store<'_, C> {
         requires { 1 ≤ self.old.journal.now.asks }
         ensures { Went 1 result self.old self.new }
     {
-        let Some(place) = self.tail_place() else {
-            return Ok(None);
-        };
+        let place = self.tail_place();
         match self.show_record(place)? {
             Some(record) if record.index.index == self.journal.tail => Ok(Some(record)),
             _ => Ok(None),

@@ -1,5 +1,5 @@
 // Coming up: what is believed is written down in a block of its own before anything else is done.
-ghost use Rattle.std.specs.Prelude.{◌<◌, ◌≤◌};
+ghost use Rattle.std.specs.Prelude.{◌≡◌, ◌<◌, ◌≤◌};
 
 use crate::belief::Belief;
 use crate::journal::Journal;
@@ -16,7 +16,8 @@ impl Journal {
 
     // Stands where the predecessor of a head stood, with what is believed; the head's records follow.
     fn inherit(&mut self, header: HeaderData, tail: u64)
-        ensures { Alike self.old self.new }
+        ensures alike { Alike self.old self.new }
+        ensures oldest { (self.new.oldest ≡ self.old.oldest) × (self.new.tail_block ≡ self.old.tail_block) }
     {
         self.tail = tail;
         self.last_tail = tail;
@@ -49,11 +50,12 @@ impl Journal {
 
 // Clearing.
 impl<C: Chip> Store<'_, C> {
-    ghost use Rattle.drive.specs.Stores.{Spent, Went, Rose};
+    ghost use Rattle.drive.specs.Stores.{Spent, Went, Rose, Wrote};
 
     // Makes a void header.
     fn make_void(&mut self)
-        ensures { Spent 0 self.old self.new }
+        ensures spent { Spent 0 self.old self.new }
+        ensures wrote { Wrote self.old self.new }
     {
         let void = VoidMark {
             number: BlockNumber { number: 0 },
@@ -164,7 +166,7 @@ impl<C: Chip> Store<'_, C> {
 
 // All of it.
 impl<C: Chip> Store<'_, C> {
-    ghost use Rattle.drive.specs.Stores.{Spent, Rose};
+    ghost use Rattle.drive.specs.Stores.{Spent, Rose, Noted};
 
     // How many blocks are bad.
     fn count_bad(&self) -> u32 {
@@ -204,7 +206,8 @@ impl<C: Chip> Store<'_, C> {
     // Keeps the head, and stands where its predecessor stood.
     fn take_over(&mut self, head: u32, header: HeaderData, tail: u64)
         requires { head < self.old.journal.now.shape.blocks }
-        ensures { Spent 0 self.old self.new }
+        ensures spent { Spent 0 self.old self.new }
+        ensures noted { Noted self.old self.new }
     {
         self.copy_data(PAGE, LIST);
         self.clear_places();

@@ -59,7 +59,7 @@ fn entry(block: u32) -> usize
 // The table of blocks and the table of places. One getter and one setter for each field, so that its place and its type are said once: one pair for all would
 // let a field be read as another. Each asks for a block of the chip, as a slice does for an index: a type can't tie a number to a geometry.
 impl<C: Chip> Store<'_, C> {
-    ghost use Rattle.drive.specs.Stores.{Spent};
+    ghost use Rattle.drive.specs.Stores.{Spent, Wrote};
 
     // The number that a block was given; the chip's void marks have 0 for none, and so has the room.
     pub fn number_of(&self, block: u32) -> u64
@@ -74,6 +74,7 @@ impl<C: Chip> Store<'_, C> {
         requires { block < self.old.journal.now.shape.blocks }
         ensures written { Written 8 (block_at block) number self.old.room.now self.new.room.now }
         ensures spent { Spent 0 self.old self.new }
+        ensures wrote { Wrote self.old self.new }
     {
         write(self.room, entry(block), number);
     }
@@ -91,6 +92,7 @@ impl<C: Chip> Store<'_, C> {
         requires { block < self.old.journal.now.shape.blocks }
         ensures written { Written 8 (block_at block + 8) first self.old.room.now self.new.room.now }
         ensures spent { Spent 0 self.old self.new }
+        ensures wrote { Wrote self.old self.new }
     {
         write(self.room, entry(block) + 8, first);
     }
@@ -108,6 +110,7 @@ impl<C: Chip> Store<'_, C> {
         requires { block < self.old.journal.now.shape.blocks }
         ensures written { Written 4 (block_at block + 16) successor self.old.room.now self.new.room.now }
         ensures spent { Spent 0 self.old self.new }
+        ensures wrote { Wrote self.old self.new }
     {
         write(self.room, entry(block) + 16, successor);
     }
@@ -125,6 +128,7 @@ impl<C: Chip> Store<'_, C> {
         requires { block < self.old.journal.now.shape.blocks }
         ensures written { Written 2 (block_at block + 20) records self.old.room.now self.new.room.now }
         ensures spent { Spent 0 self.old self.new }
+        ensures wrote { Wrote self.old self.new }
     {
         write(self.room, entry(block) + 20, records);
     }
@@ -142,6 +146,7 @@ impl<C: Chip> Store<'_, C> {
         requires { block < self.old.journal.now.shape.blocks }
         ensures written { Written 2 (block_at block + 22) (code_of standing) self.old.room.now self.new.room.now }
         ensures spent { Spent 0 self.old self.new }
+        ensures wrote { Wrote self.old self.new }
     {
         write(self.room, entry(block) + 22, standing as u16);
     }
@@ -179,6 +184,7 @@ impl<C: Chip> Store<'_, C> {
         requires small { (place.block < 65536) × (place.page < 256) }
         ensures written { Written 4 (place_at self.old.journal.now.shape.blocks sector) (256 * place.block + place.page + 1) self.old.room.now self.new.room.now }
         ensures spent { Spent 0 self.old self.new }
+        ensures wrote { Wrote self.old self.new }
     {
         let at = self.place(sector);
         write(self.room, at, 256 * place.block + place.page + 1);
@@ -186,7 +192,8 @@ impl<C: Chip> Store<'_, C> {
 
     // No sector has a place.
     pub fn clear_places(&mut self)
-        ensures { Spent 0 self.old self.new }
+        ensures spent { Spent 0 self.old self.new }
+        ensures wrote { Wrote self.old self.new }
     {
         let begin = self.place(0);
         let end = self.place(self.journal.shape.total);
@@ -196,7 +203,8 @@ impl<C: Chip> Store<'_, C> {
     // Copies the data of a page from one place to another.
     pub fn copy_data(&mut self, from: usize, to: usize)
         requires { (from ≤ 266496) × (to ≤ 266496) }
-        ensures { Spent 0 self.old self.new }
+        ensures spent { Spent 0 self.old self.new }
+        ensures wrote { Wrote self.old self.new }
     {
         self.room.copy_within(from..from + 4096, to);
     }

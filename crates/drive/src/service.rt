@@ -14,6 +14,7 @@ impl Journal {
     pub fn come_up<C: Chip>(&mut self, c: &mut C, room: &mut [u8]) -> Result<(), Gone>
         requires { Ready (C.nand c.old) self.old room.old }
         ensures ready { IfOk result (λ _. Ready (C.nand c.new) self.new room.new) }
+        ensures shape { self.new.shape ≡ self.old.shape }
         ensures off { is_ok result ≡ false → (C.nand c.new).on ≡ false }
     {
         let mut store = Store {

@@ -37,11 +37,12 @@ impl Journal {
 }
 
 impl<C: Chip> Store<'_, C> {
-    ghost use Rattle.drive.specs.Stores.{Spent, Went};
+    ghost use Rattle.drive.specs.Stores.{Spent, Went, Wrote};
 
     // Puts what a fresh record is to hold into the page in the room.
     fn load(&mut self, source: Source)
-        ensures { Spent 0 self.old self.new }
+        ensures spent { Spent 0 self.old self.new }
+        ensures wrote { Wrote self.old self.new }
     {
         match source {
             Source::Written { tag, i } if i < 8 => {

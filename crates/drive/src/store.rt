@@ -8,6 +8,7 @@ use crate::journal::Journal;
 use crate::room::Address;
 use crate::{Chip, Gone};
 use record::marks::{Mark, RecordMark};
+use std::mem::take;
 
 // A journal, with the chip that its log lies on and the room that is lent to it.
 #[derive(Drop)]
@@ -51,14 +52,19 @@ impl<C: Chip> Store<'_, C> {
     pub fn put(&mut self, at: usize) -> Result<bool, Gone>
         requires soon { 1 ≤ self.old.journal.now.asks }
         requires within { at ≤ 266496 }
-        ensures { Went 1 result self.old self.new }
+        ensures went { Went 1 result self.old self.new }
+        ensures room { self.new.room.now ≡ self.old.room.now }
     {
         let journal = &mut *self.journal;
         let Some(head) = journal.head.take() else {
             return Ok(false);
         };
         journal.asks -= 1;
-        match program_next(self.chip, head, &self.room[at..at + 4352])? {
+        // Taken out meanwhile: of a `&` of the room's bytes beside the chip's `&mut` it isn't known afterwards that they are the same.
+        let room = take(&mut self.room);
+        let programmed = program_next(self.chip, head, &room[at..at + 4352]);
+        self.room = room;
+        match programmed? {
             Programmed::Next(next) => {
                 self.journal.head = Some(next);
                 Ok(true)
@@ -75,7 +81,8 @@ impl<C: Chip> Store<'_, C> {
     pub fn take_block(&mut self, block: u32) -> Result<bool, Gone>
         requires soon { 1 ≤ self.old.journal.now.asks }
         requires free { Free (C.nand self.old.chip.now) block }
-        ensures { Went 1 result self.old self.new }
+        ensures went { Went 1 result self.old self.new }
+        ensures room { self.new.room.now ≡ self.old.room.now }
     {
         self.journal.asks -= 1;
         self.journal.head = None;
@@ -92,12 +99,12 @@ impl<C: Chip> Store<'_, C> {
         }
     }
 
-    // Whether a block is free and not bad.
+    // Whether a block is free and not bad, and another may be given a higher number.
     fn is_usable(&self, block: u32) -> bool
         requires { block < self.now.journal.now.shape.blocks }
         ensures { result ≡ true → Free (C.nand self.now.chip.now) block }
     {
-        !self.chip.is_bad(block) && self.is_free(block)
+        self.is_free(block) && self.number_of(block) < u64::MAX && !self.chip.is_bad(block)
     }
 
     // The free block with the lowest number, if one is left.

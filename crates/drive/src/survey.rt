@@ -45,12 +45,13 @@ fn is_first(header: HeaderMark) -> bool {
 }
 
 impl<C: Chip> Store<'_, C> {
-    ghost use Rattle.drive.specs.Stores.{Spent, Went, Rose};
+    ghost use Rattle.drive.specs.Stores.{Spent, Went, Rose, Noted};
 
     // Notes what a block's first page says.
     pub fn note_block(&mut self, block: u32, number: u64, standing: Standing)
         requires { block < self.old.journal.now.shape.blocks }
-        ensures { Spent 0 self.old self.new }
+        ensures spent { Spent 0 self.old self.new }
+        ensures noted { Noted self.old self.new }
     {
         self.set_number(block, number);
         self.set_standing(block, standing);

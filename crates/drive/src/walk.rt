@@ -19,12 +19,13 @@ pub struct Stretch {
 }
 
 impl<C: Chip> Store<'_, C> {
-    ghost use Rattle.drive.specs.Stores.{Spent};
+    ghost use Rattle.drive.specs.Stores.{Spent, Wrote, Noted};
 
     // Notes the place of a record's sector, unless a newer one is known.
     fn place_entry(&mut self, content: Content, place: Address)
         requires { (place.block < 65536) × (place.page < 256) }
-        ensures { Spent 0 self.old self.new }
+        ensures spent { Spent 0 self.old self.new }
+        ensures wrote { Wrote self.old self.new }
     {
         if let Content::Data { sector, .. } = content {
             let sector = sector.number;
@@ -37,7 +38,8 @@ impl<C: Chip> Store<'_, C> {
     // Notes the places of a block's records, newest first, as the header in the room has them.
     fn place_entries(&mut self, stretch: Stretch)
         requires { stretch.block < self.old.journal.now.shape.blocks }
-        ensures { Spent 0 self.old self.new }
+        ensures spent { Spent 0 self.old self.new }
+        ensures wrote { Wrote self.old self.new }
     {
         for i in (0..stretch.records.count).rev() {
             if stretch.first.saturating_add(u64::from(i)) < self.journal.tail {
@@ -56,7 +58,8 @@ impl<C: Chip> Store<'_, C> {
     // Notes that a block is in the log.
     fn note_stretch(&mut self, stretch: Stretch)
         requires { stretch.block < self.old.journal.now.shape.blocks }
-        ensures { Spent 0 self.old self.new }
+        ensures spent { Spent 0 self.old self.new }
+        ensures noted { Noted self.old self.new }
     {
         let Stretch {
             block,

@@ -9,8 +9,8 @@ ghost use Rattle.output.specs.Digits.{digit, hex_of, pair_line};
 // There is no `Model` either: once something found no room, the fields don't tell what was printed.
 #[derive(Drop)]
 pub struct Output<'a> {
-    bytes: &'a mut [u8],
-    len: usize,
+    pub bytes: &'a mut [u8],
+    pub len: usize,
     pub full: bool,
     ghost within: { len ≤ length bytes.now },
 }

@@ -1,6 +1,7 @@
 -- A drive stays ready while it isn't asked for a turn. Assumes nothing.
-use Rattle.std.proofs.Common.{◌≡◌, ℕ, List, length, Option, Some, refl, sym, ap, ◌∙◌, subst, arith}
-use Rattle.drive.specs.Nand.{Nand, allowed}
+use Rattle.std.proofs.Common.{◌≡◌, ℕ, ◌<◌, ◌≤◌, List, length, Option, Some, None, refl, sym, ap, ◌∙◌, subst, ⊎_elim, arith}
+use Rattle.std.proofs.lemmas.Bool.{cases_lt}
+use Rattle.drive.specs.Nand.{Nand, allowed, dark}
 use Rattle.drive.specs.Journals.{Ready}
 use Rattle.drive.specs.Service.{Standing}
 use Rattle.drive.specs.declared.Drive.{Drive}
@@ -24,3 +25,14 @@ standing-allowed n m k d room e s = (
 pub standing_asked : (n : Nand) (d e : Drive) (room room' : List ℕ) → e.journal ≡ d.journal → length room' ≡ length room → Standing n d room → Standing n e room'
 standing_asked n d e room room' j len s =
     subst (λ (x : Journal). Ready n x room' × (x.asks ≡ 0)) (sym j) (ready_room n d.journal room room' len s.0, s.1)
+
+-- the power goes, or it is said at which ask it will
+up_dark : (n : Nand) (o : Option Drive) (room : List ℕ) → Up n o room → Up (dark n) o room
+up_dark n None room u = tt
+up_dark n (Some d) room u = (ready_same n (dark n) d.journal d.journal room room refl refl refl u.0.soon refl refl refl u.0, u.1)
+
+pub up_cut : (n m : Nand) (k : ℕ) (o : Option Drive) (room : List ℕ) → (k ≡ 0 → m ≡ dark n) → (0 < k → m ≡ n) → Up n o room → Up m o room
+up_cut n m k o room now later u =
+    ⊎_elim (λ (p : 0 < k). subst (λ (x : Nand). Up x o room) (sym (later p)) u)
+    (λ (p : k ≤ 0). subst (λ (x : Nand). Up x o room) (sym (now (omega arith))) (up_dark n o room u))
+    (cases_lt 0 k)

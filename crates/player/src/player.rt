@@ -17,14 +17,14 @@ pub struct Options {
 // often the power went.
 #[derive(Drop)]
 pub struct Player<'a, C: Bench> {
-    pub(crate) chip: &'a mut C,
-    room: &'a mut [u8],
+    pub chip: &'a mut C,
+    pub room: &'a mut [u8],
     pub out: Output<'a>,
     buffer: [u8; 32768],
-    pub(crate) drive: Option<Drive>,
-    turns: u32,
+    pub drive: Option<Drive>,
+    pub turns: u32,
     pub cuts: u64,
-    options: Options,
+    pub options: Options,
     ghost up: { Up (C.Chip.nand chip.now) drive room.now } by { Up-prop (C.Chip.nand chip.now) drive room.now },
 }
 
@@ -71,6 +71,8 @@ impl<'a, C: Bench> Player<'a, C> {
     pub fn new(chip: &'a mut C, room: &'a mut [u8], text: &'a mut [u8], options: Options) -> Self
         ensures down { (result.drive ≡ None) × (result.cuts ≡ 0) × (result.options ≡ options) }
         ensures out { Shows result.out [] }
+        ensures chip { (result.chip.ghost_name ≡ chip.entry.ghost_name) × (result.chip.now ≡ chip.old) }
+        ensures room { (result.room.ghost_name ≡ room.entry.ghost_name) × (result.room.now ≡ room.old) }
     {
         Player {
             chip,
@@ -86,6 +88,8 @@ impl<'a, C: Bench> Player<'a, C> {
 }
 
 impl<C: Bench> Player<'_, C> {
+    ghost use Rattle.player.specs.Players.{Same};
+
     // Whether it has ended.
     pub fn is_over(&self) -> bool
         ensures { result ≡ self.now.options.once && nat_lt 0 self.now.cuts }
@@ -95,6 +99,7 @@ impl<C: Bench> Player<'_, C> {
 
     // Prints a number behind a word, where that is wanted.
     pub(crate) fn note(&mut self, word: &[u8], n: u64)
+        ensures same { Same self.old self.new }
         ensures chip { self.new.chip.now ≡ self.old.chip.now }
         ensures quiet { self.old.options.trace ≡ false → (l : List ℕ) → Shows self.old.out l → Shows self.new.out l }
     {
@@ -104,7 +109,9 @@ impl<C: Bench> Player<'_, C> {
     }
 
     // Tries to come up once.
-    fn rise(&mut self) {
+    fn rise(&mut self)
+        ensures { Same self.old self.new }
+    {
         self.drive = None;
         self.turns = 0;
         let blocks = self.chip.blocks();
@@ -119,7 +126,9 @@ impl<C: Bench> Player<'_, C> {
     }
 
     // Comes up, if it isn't; a coming-up that is cut begins anew.
-    fn ensure_up(&mut self) {
+    fn ensure_up(&mut self)
+        ensures { Same self.old self.new }
+    {
         for _ in 0..MOST_TRIES {
             if self.drive.is_some() || self.is_over() {
                 return;
@@ -129,7 +138,9 @@ impl<C: Bench> Player<'_, C> {
     }
 
     // One turn; the drive comes up first if it isn't up, and is down afterwards if the power went. False where there is nothing to do.
-    fn turn_once(&mut self) -> bool {
+    fn turn_once(&mut self) -> bool
+        ensures { Same self.old self.new }
+    {
         self.ensure_up();
         if self.turns >= MOST_TURNS {
             return false;
@@ -157,7 +168,9 @@ impl<C: Bench> Player<'_, C> {
     }
 
     // So many turns, as long as there is something to do.
-    pub(crate) fn turn(&mut self, count: u32) {
+    pub(crate) fn turn(&mut self, count: u32)
+        ensures { Same self.old self.new }
+    {
         for _ in 0..count {
             if !self.turn_once() {
                 break;
@@ -166,7 +179,9 @@ impl<C: Bench> Player<'_, C> {
     }
 
     // A command; the drive comes up first if it isn't up. Prints why it is turned away, if it is: a number, which the fixed text of `Drive::ask` asks for.
-    pub(crate) fn ask(&mut self, tag: u8, ask: Ask) {
+    pub(crate) fn ask(&mut self, tag: u8, ask: Ask)
+        ensures { Same self.old self.new }
+    {
         self.ensure_up();
         if self.room.len() < 262_144 {
             return;
@@ -183,7 +198,9 @@ impl<C: Bench> Player<'_, C> {
     }
 
     // A command that writes sectors of one byte.
-    pub(crate) fn write(&mut self, tag: u8, from: u64, many: u32, b: u8) {
+    pub(crate) fn write(&mut self, tag: u8, from: u64, many: u32, b: u8)
+        ensures { Same self.old self.new }
+    {
         self.buffer.fill(b);
         self.ask(tag, Ask::Write { from, many });
     }
@@ -191,6 +208,7 @@ impl<C: Bench> Player<'_, C> {
     // The power has gone, and comes back unless it ends with that.
     pub(crate) fn lose(&mut self)
         requires { (C.Chip.nand self.old.chip.now).on ≡ false }
+        ensures { Same self.old self.new }
     {
         self.drive = None;
         self.cuts = self.cuts.saturating_add(1);

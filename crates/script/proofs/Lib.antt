@@ -1,4 +1,5 @@
 pub mod Digits
 pub mod Joins
+pub mod Lengths
 pub mod Readings
 pub mod Texts

@@ -46,10 +46,16 @@ pub fn one_reading() -> u8
     0
 }
 
-// The command of a line, if it gives one.
+// No command has more bytes.
+const LONGEST: usize = 40;
+
+// The command of a line, if it gives one. A longer line isn't looked through for the end of its first word.
 pub fn parse(line: &[u8]) -> Option<Command>
     ensures { Whole text Fits line.now result }
 {
+    if line.len() > LONGEST {
+        return None;
+    }
     let (word, fields) = split_at_byte(line, b' ');
     match word {
         b"write" => parse_write(fields),

@@ -1,9 +1,13 @@
-use Rattle.std.proofs.Common.{◌≡◌, ◌++◌, codes, arith}
+use Rattle.std.proofs.Common.{◌≡◌, ◌++◌, length, codes, ap, arith}
 use Rattle.std.proofs.lemmas.Grind.{common_steps}
 use Rattle.std.specs.Option.{option_map}
 use Rattle.script.specs.declared.commands.Command.TheVariants.{Read, Trim, Flush, Turn, Seed}
+use Rattle.script.proofs.Lengths.{text_short}
 use Rattle.script.proofs.Texts.{named, read_is, trim_is, flush_is, turn_is, seed_is}
 use Rattle.script.proofs.commands.parse.Goals as goal
+
+pub returns-then-line-gt-LONGEST : goal.returns-then-line-gt-LONGEST
+returns-then-line-gt-LONGEST c v f e = omega (arith, c.if-line-gt-LONGEST.true, text_short v f, ap length e)
 
 pub returns-in-read : goal.returns-in-read
 returns-in-read c =

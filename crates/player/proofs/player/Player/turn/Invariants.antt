@@ -1,0 +1,5 @@
+use Rattle.player.specs.Players.{Same}
+use Rattle.player.proofs.player.Player.turn.Given as goal
+
+abbrev pub invariant-loop : goal.invariant-loop
+invariant-loop g l = Same l.initial.self l.self
