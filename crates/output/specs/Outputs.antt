@@ -10,6 +10,7 @@ pub record Pushes (o : Output) (b : ℕ) (p : Output) : Type 0 where
 
 -- the text l was printed: as much of it as fits stands there, and a note if that isn't all
 pub record Shows (o : Output) (l : List ℕ) : Type 0 where
+  pub within : o.len ≤ length o.bytes.now
   pub shown : take o.len o.bytes.now ≡ take (length o.bytes.now) l
   pub cut : length o.bytes.now < length l → o.full ≡ true
 

@@ -12,7 +12,6 @@ pub struct Output<'a> {
     pub bytes: &'a mut [u8],
     pub len: usize,
     pub full: bool,
-    ghost within: { len ≤ length bytes.now },
 }
 
 impl<'a> Output<'a> {
@@ -37,7 +36,7 @@ impl Output<'_> {
     pub fn printed(&self) -> &[u8]
         ensures { (l : List ℕ) → Shows self.now l → result.now ≡ take (length self.now.bytes.now) l }
     {
-        &self.bytes[..self.len]
+        &self.bytes[..self.len.min(self.bytes.len())]
     }
 
     // Nothing was printed, as at the start.

@@ -100,7 +100,7 @@ impl<C: Bench> Player<'_, C> {
     // Prints a number behind a word, where that is wanted.
     pub(crate) fn note(&mut self, word: &[u8], n: u64)
         ensures same { Same self.old self.new }
-        ensures chip { self.new.chip.now ≡ self.old.chip.now }
+        ensures rest { (self.new.chip.now ≡ self.old.chip.now) × ((self.new.room.now ≡ self.old.room.now) × ((self.new.drive ≡ self.old.drive) × ((self.new.turns ≡ self.old.turns) × ((self.new.cuts ≡ self.old.cuts) × (self.new.options ≡ self.old.options))))) }
         ensures quiet { self.old.options.trace ≡ false → (l : List ℕ) → Shows self.old.out l → Shows self.new.out l }
     {
         if self.options.trace {
